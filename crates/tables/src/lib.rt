@@ -1,0 +1,2 @@
+pub mod size;
+pub mod sizes;

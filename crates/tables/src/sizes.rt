@@ -1,0 +1,64 @@
+// Making sizes, and reading them.
+ghost use mathlib.Core.Path.{_≡_};
+ghost use Prim.Native.Nat.{_+_, _*_, _^_, _≤_};
+ghost use Rattle.tables.specs.Limits.{most-chunks, most-chunk-bits, most-cycle-bits, most-variables};
+ghost use Rattle.tables.specs.Sizes.{sizes-for, k, cell-count, cycle-count};
+use crate::size::Sizes;
+use fields::refusal::Refusal;
+
+impl Sizes {
+    pub fn new(d: usize, c: usize, t: usize) -> Result<Sizes, Refusal>
+        ensures { λ r. ⌜ r ≡ sizes-for d c t ⌝ }
+    {
+        if d < 1 || d > 4 || c < 1 || c > 6 || t > 12 || d * c + t > 14 {
+            return Err(Refusal::OutsideLimits);
+        }
+        Ok(Sizes { d, c, t })
+    }
+
+    // d, the chunks of an address.
+    pub fn chunks(self) -> usize
+        ensures value { λ r. ⌜ r ≡ self .d ⌝ }
+        ensures bound { λ r. ⌜ (1 ≤ r) × (r ≤ most-chunks) ⌝ }
+    {
+        self.d
+    }
+
+    // c, the bits of a chunk.
+    pub fn chunk_bits(self) -> usize
+        ensures value { λ r. ⌜ r ≡ self .c ⌝ }
+        ensures bound { λ r. ⌜ (1 ≤ r) × (r ≤ most-chunk-bits) ⌝ }
+    {
+        self.c
+    }
+
+    // t, the bits of a cycle's number.
+    pub fn cycle_bits(self) -> usize
+        ensures value { λ r. ⌜ r ≡ self .t ⌝ }
+        ensures bound { λ r. ⌜ r ≤ most-cycle-bits ⌝ }
+    {
+        self.t
+    }
+
+    // k, the bits of an address.
+    pub fn address_bits(self) -> usize
+        ensures value { λ r. ⌜ r ≡ k self ⌝ }
+        ensures bound { λ r. ⌜ (1 ≤ r) × (r + self .t ≤ most-variables) ⌝ }
+    {
+        self.d * self.c
+    }
+
+    // K, the number of cells.
+    pub fn cells(self) -> usize
+        ensures { λ r. ⌜ r ≡ cell-count self ⌝ }
+    {
+        1 << self.address_bits()
+    }
+
+    // T, the number of cycles.
+    pub fn cycles(self) -> usize
+        ensures { λ r. ⌜ r ≡ cycle-count self ⌝ }
+    {
+        1 << self.t
+    }
+}

@@ -1,7 +1,7 @@
 // A field, as the tables and both ends of the protocol use it.
 ghost use mathlib.Core.Path.{_≡_};
 ghost use lib.Dec.{eqb};
-ghost use Rattle.fields.specs.Fields.{FieldOf, less, element-for};
+ghost use Rattle.fields.specs.Fields.{FieldOf, element-for};
 use crate::refusal::Refusal;
 
 pub trait Field: Copy {
@@ -36,7 +36,7 @@ pub trait Field: Copy {
         ensures { λ r. ⌜ r ≡ field .add self other ⌝ };
 
     fn minus(self, other: Self) -> Self
-        ensures { λ r. ⌜ r ≡ less field self other ⌝ };
+        ensures { λ r. ⌜ r ≡ field .add self (field .neg other) ⌝ };
 
     fn times(self, other: Self) -> Self
         ensures { λ r. ⌜ r ≡ field .mul self other ⌝ };

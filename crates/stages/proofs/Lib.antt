@@ -1,0 +1,4 @@
+pub mod Lists
+pub mod Stages
+pub mod Bounds
+pub mod Places

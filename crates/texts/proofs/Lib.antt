@@ -1,1 +1,3 @@
 pub mod Pages
+pub mod Numbers
+pub mod Lines

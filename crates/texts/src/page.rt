@@ -6,13 +6,16 @@ ghost use Rattle.std.specs.Of.String.{string-bytes};
 ghost use Rattle.std.specs.Vec.{made};
 ghost use Rattle.std.specs.Written.{decimal};
 ghost use Rattle.stages.specs.Plan.{bounds};
-ghost use Rattle.texts.specs.Pages.{stage-name, chunk-name, table-name, comma-list, stage-line, plan-text, refusal-text};
+ghost use Rattle.texts.specs.Pages.{stage-name, chunk-name, table-name, comma-list, stage-line, plan-text, refusal-text, Answers};
+use crate::job::Job;
+use crate::job::read_job;
 use fields::refusal::Refusal;
 use stages::plan::ChunkTable;
 use stages::plan::Plan;
 use stages::plan::Stage;
 use std::alloc::AllocError;
 use std::alloc::Global;
+use tables::size::Sizes;
 
 fn stage_name(stage: Stage) -> &'static str
     ensures { λ r. ⌜ now r ≡ stage-name stage ⌝ }
@@ -90,4 +93,17 @@ pub fn refusal_text(heap: Global, refusal: Refusal) -> Result<String, AllocError
 {
     let number = refusal.number();
     format!(heap, "refused\t{number}\n")
+}
+
+// The plan of the job whose line the input begins with, or the refusal.
+pub fn answer(heap: Global, input: &[u8]) -> Result<String, AllocError>
+    ensures { λ r. ⌜ made r (λ s. Answers (now (input .entry)) (string-bytes s)) ⌝ }
+{
+    match read_job(input) {
+        Err(refusal) => refusal_text(heap, refusal),
+        Ok(Job { kind, d, c, t }) => match Sizes::new(d, c, t) {
+            Err(refusal) => refusal_text(heap, refusal),
+            Ok(sizes) => plan_text(heap, Plan { kind, sizes }),
+        },
+    }
 }

@@ -22,11 +22,11 @@ loop-round-again c =
     let i = c .loop-round .round in
     let old = string-bytes (c .loop-round .text) in
     elim (c .match-bound-at-2 .came) [
-      in-Some-bound-at·in-Continue-next·in-Continue-push-str w ↦
-      ap (λ s. s ++ after-commas (drop (i + 1) (bounds p g)))
-      (ap string-bytes (w .text-is) ∙ w .in-Continue-push-str .ensures tt .bytes ∙ ap (λ s. old ++ s) (w .as-str .ensures .value ∙ w .in-Continue-next .ensures tt .made))
-      ∙ next-bound p g i (w .in-Some-bound-at .bound) old (comma-list (bounds p g)) (sym (w .in-Some-bound-at .ensures tt)) (c .loop-round .inv)
-    | in-rest-bound-at w ↦ absurd (some-bound p g i (sym (w .in-rest-bound-at .ensures tt)) (omega arith))
+      | in-Some-bound-at·in-Continue-next·in-Continue-push-str w ↦
+          ap (λ s. s ++ after-commas (drop (i + 1) (bounds p g)))
+          (ap string-bytes (w .text-is) ∙ w .in-Continue-push-str .ensures tt .bytes ∙ ap (λ s. old ++ s) (w .as-str .ensures .value ∙ w .in-Continue-next .ensures tt .made))
+          ∙ next-bound p g i (w .in-Some-bound-at .bound) old (comma-list (bounds p g)) (sym (w .in-Some-bound-at .ensures tt)) (c .loop-round .inv)
+      | in-rest-bound-at w ↦ absurd (some-bound p g i (sym (w .in-rest-bound-at .ensures tt)) (omega arith))
     ]
 
 pub returns : need.returns

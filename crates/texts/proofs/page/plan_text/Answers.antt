@@ -16,11 +16,11 @@ loop-index-again c =
     let i = c .loop-index .index in
     let old = string-bytes (c .loop-index .text) in
     elim (c .match-stage-at .came) [
-      in-Some·in-Continue-line·in-Continue-push-str w ↦
-      ap (λ s. s ++ stage-lines p (i + 1 + 1) (drop (i + 1) (stages p)))
-      (ap string-bytes (w .text-is) ∙ w .in-Continue-push-str .ensures tt .bytes ∙ ap (λ s. old ++ s) (w .as-str .ensures .value ∙ w .in-Continue-line .ensures tt))
-      ∙ next-stage p i (w .in-Some .stage) old (plan-text p) (sym (w .in-Some .ensures tt)) (c .loop-index .inv)
-    | in-rest w ↦ absurd (some-stage p i (sym (w .in-rest .ensures tt)) (omega arith))
+      | in-Some·in-Continue-line·in-Continue-push-str w ↦
+          ap (λ s. s ++ stage-lines p (i + 1 + 1) (drop (i + 1) (stages p)))
+          (ap string-bytes (w .text-is) ∙ w .in-Continue-push-str .ensures tt .bytes ∙ ap (λ s. old ++ s) (w .as-str .ensures .value ∙ w .in-Continue-line .ensures tt))
+          ∙ next-stage p i (w .in-Some .stage) old (plan-text p) (sym (w .in-Some .ensures tt)) (c .loop-index .inv)
+      | in-rest w ↦ absurd (some-stage p i (sym (w .in-rest .ensures tt)) (omega arith))
     ]
 
 pub returns : need.returns

@@ -11,7 +11,7 @@ use Rattle.std.specs.Written.{decimal}
 use Rattle.stages.specs.declared.plan.Stage.{Stage}
 use Rattle.stages.specs.declared.plan.Plan.{Plan}
 use Rattle.stages.specs.Plan.{stages, stage-at, bounds, bound-at, rounds}
-use Rattle.texts.specs.Pages.{comma, after-commas, comma-list, stage-line, stage-lines, plan-text}
+use Rattle.texts.specs.Pages.{comma, after-commas, comma-list, stage-line, stage-lines}
 
 drop-nth : {X : Type 0} (xs : List X) (i : ℕ) (x : X) → nth xs i ≡ Some x → drop i xs ≡ x ∷ drop (suc i) xs
 drop-nth [] i x is = let z : _≡_ {A = ℕ} 0 1 = cc in absurd (omega arith)
@@ -47,13 +47,6 @@ module _ (p : Plan) (g : Stage) where
 
   pub all-bounds : (i : ℕ) (w whole : List ℕ) → rounds p g ≤ i → w ++ after-commas (drop i (bounds p g)) ≡ whole → w ≡ whole
   all-bounds i w whole h so-far = sym (ap (λ bs. w ++ after-commas bs) (drop-past (bounds p g) i h) ∙ append-nil w) ∙ so-far
-
-  pub no-bounds : bound-at p g 1 ≡ None → comma-list [] ≡ comma-list (bounds p g)
-  no-bounds none = empty (bounds p g) none
-    where
-      empty : (bs : List ℕ) → nth bs 0 ≡ None → comma-list [] ≡ comma-list bs
-      empty [] is = refl
-      empty (b ∷ bs) is = let z : _≡_ {A = ℕ} 0 1 = cc in absurd (omega arith)
 
 module _ (p : Plan) where
   pub some-stage : (i : ℕ) → stage-at p (i + 1) ≡ None → i < length (stages p) → ⊥

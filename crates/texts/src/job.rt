@@ -1,6 +1,6 @@
 // Reading the line that asks for the plan of a job.
 ghost use mathlib.Core.Path.{_≡_};
-ghost use Prim.Native.Nat.{_<_, _≤_, _^_};
+ghost use Prim.Native.Nat.{_<_, _≤_};
 ghost use lib.ListN.{length};
 ghost use Rattle.std.specs.Reads.{Digits, value};
 ghost use Rattle.std.specs.Text.{asciiDigit};
@@ -17,6 +17,9 @@ pub struct Job {
     pub c: usize,
     pub t: usize,
 }
+
+// The digits of a number in a line.
+const MOST_DIGITS: usize = 4;
 
 // How many decimal digits the bytes begin with.
 fn leading_digits(bytes: &[u8]) -> usize
@@ -44,13 +47,13 @@ fn digits_value(digits: &[u8]) -> usize
     number
 }
 
-// A number of one to four digits without a leading zero, then the byte `end`: the number and the rest.
+// A number of at most MOST_DIGITS digits without a leading zero, then the byte `end`: the number and the rest.
 fn number(bytes: &[u8], end: u8) -> Option<(usize, &[u8])>
     requires { ⌜ end < 48 ⌝ }
     ensures { λ r. ⌜ Number-first (now (bytes .entry)) end r ⌝ }
 {
     let count = leading_digits(bytes);
-    if count == 0 || count > 4 || count == bytes.len() {
+    if count == 0 || count > MOST_DIGITS || count == bytes.len() {
         return None;
     }
     if bytes[count] != end {

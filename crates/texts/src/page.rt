@@ -1,10 +1,7 @@
 // The text that answers a job's line.
 ghost use mathlib.Core.Path.{_≡_};
-ghost use mathlib.Core.List.{List, [], _∷_, _++_};
-ghost use Prim.Native.Nat.{ℕ};
 ghost use Rattle.std.specs.Of.String.{string-bytes};
 ghost use Rattle.std.specs.Vec.{made};
-ghost use Rattle.std.specs.Written.{decimal};
 ghost use Rattle.stages.specs.Plan.{bounds};
 ghost use Rattle.texts.specs.Pages.{stage-name, chunk-name, table-name, comma-list, stage-line, plan-text, refusal-text, Answers};
 use crate::job::Job;

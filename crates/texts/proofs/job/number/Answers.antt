@@ -1,26 +1,24 @@
 use mathlib.Core.Path.{_≡_, sym, ap, ap₂, subst, _∙_}
-use mathlib.Core.Logic.{⊎-elim}
 use mathlib.Core.List.{_∷_, _++_}
-use Prim.Native.Nat.{_+_, _-_, _<_, _≤_, suc}
-use native.Mathlib.Nat.{min-le-left}
+use Prim.Native.Nat.{_+_, _-_, suc}
 use native.Mathlib.Numerals.{add-one}
 use native.Mathlib.Omega.{arith}
-use lib.ListN.{take, drop, length, getD, length-take}
+use lib.ListN.{take, drop, length, length-take}
 use Rattle.std.specs.Reads.{value}
 use Rattle.std.specs.Written.{decimal}
 use Rattle.std.proofs.shelf.Parts.{between-to-end}
 use Rattle.texts.specs.Jobs.{Short}
 use Rattle.texts.proofs.Numbers.{Formed, formed, front-digits, number-read}
 use Rattle.texts.proofs.job.number.Needs as need
-use Rattle.texts.proofs.job.number.Needs.{then-count-eq0·by·then-count-eq0, then-count-eq0·by·else-count-eq0·then-count-gt4, then-count-eq0·by·else-count-eq0·else-count-gt4·then-count-bytes, else-count-gt1·by·then-count-gt1·else-bytes-eq48, else-count-gt1·by·else-count-gt1}
+use Rattle.texts.proofs.job.number.Needs.{then-count-eq0·by·then-count-eq0, then-count-eq0·by·else-count-eq0·then-count-gt-MOST-DIGITS, then-count-eq0·by·else-count-eq0·else-count-gt-MOST-DIGITS·then-count-bytes, else-count-gt1·by·then-count-gt1·else-bytes-eq48, else-count-gt1·by·else-count-gt1}
 
 pub returns-then-count-eq0 : need.returns-then-count-eq0
 returns-then-count-eq0 c n rest small e =
     let f = formed n (c .leading-digits-count .result) (c .args .end) (c .args .bytes .now) rest (c .leading-digits-count .ensures .value) (c .pre) small e in
     elim (c .then-count-eq0 .came) [
       | then-count-eq0·by·then-count-eq0 w ↦ omega (arith, f .some)
-      | then-count-eq0·by·else-count-eq0·then-count-gt4 w ↦ omega (arith, f .few)
-      | then-count-eq0·by·else-count-eq0·else-count-gt4·then-count-bytes w ↦ omega (arith, f .within)
+      | then-count-eq0·by·else-count-eq0·then-count-gt-MOST-DIGITS w ↦ omega (arith, f .few)
+      | then-count-eq0·by·else-count-eq0·else-count-gt-MOST-DIGITS·then-count-bytes w ↦ omega (arith, f .within)
     ]
 
 pub returns-then-bytes-count : need.returns-then-bytes-count

@@ -1,8 +1,8 @@
-use mathlib.Core.Path.{_≡_, refl, sym, ap, _∙_}
+use mathlib.Core.Path.{refl, sym, ap, _∙_}
 use mathlib.Core.List.{_∷_, _++_}
 use Rattle.std.specs.Written.{decimal}
 use Rattle.texts.specs.declared.job.Job.{Job}
-use Rattle.texts.specs.Jobs.{tab, kind-name, Begins}
+use Rattle.texts.specs.Jobs.{tab, kind-name}
 use Rattle.texts.proofs.Lines.{from-t, from-c, from-d, line-parts, whole, after-kind, after-d, after-c}
 use Rattle.texts.proofs.job.read_job.Needs as need
 

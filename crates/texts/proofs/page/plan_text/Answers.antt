@@ -1,11 +1,11 @@
-use mathlib.Core.Path.{_≡_, sym, ap, _∙_}
+use mathlib.Core.Path.{sym, ap, _∙_}
 use mathlib.Core.List.{_++_}
 use Prim.Native.Nat.{_+_}
 use native.Mathlib.Omega.{arith}
 use lib.ListN.{drop}
 use Rattle.std.specs.Of.String.{string-bytes}
 use Rattle.stages.specs.Plan.{stages}
-use Rattle.texts.specs.Pages.{stage-line, stage-lines, plan-text}
+use Rattle.texts.specs.Pages.{stage-lines, plan-text}
 use Rattle.texts.proofs.Pages.{some-stage, next-stage, all-stages}
 use Rattle.texts.proofs.page.plan_text.Needs as need
 use Rattle.texts.proofs.page.plan_text.Needs.{in-Some·in-Continue-line·in-Continue-push-str, in-rest}

@@ -1,4 +1,4 @@
-use mathlib.Core.Path.{sym, ap, _∙_}
+use mathlib.Core.Path.{sym, ap}
 use Rattle.stages.specs.declared.plan.Kind.the-variants.{Shout, Twist}
 use Rattle.stages.specs.Plan.{closed-form}
 use Rattle.stages.proofs.Stages.{count-closed}

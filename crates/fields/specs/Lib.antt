@@ -2,3 +2,5 @@ pub mod Refusals
 pub mod Fields
 pub mod Laws
 pub mod F31
+pub mod PowerTables
+pub mod F257

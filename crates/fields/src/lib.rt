@@ -1,3 +1,4 @@
+pub mod f257;
 pub mod f31;
 pub mod field;
 pub mod refusal;

@@ -4,3 +4,4 @@ pub mod Laws
 pub mod F31
 pub mod PowerTables
 pub mod F257
+pub mod P31

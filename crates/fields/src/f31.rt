@@ -9,3 +9,7 @@ pub struct F31 {
     value: u32,
     ghost ok: { value < 2147483647 },
 }
+
+pub(crate) const ZERO: F31 = F31 { value: 0 };
+
+pub(crate) const ONE: F31 = F31 { value: 1 };

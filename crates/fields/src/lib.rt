@@ -1,4 +1,5 @@
 pub mod f257;
 pub mod f31;
 pub mod field;
+pub mod p31;
 pub mod refusal;

@@ -2,6 +2,7 @@
 ghost use mathlib.Core.Path.{_≡_};
 ghost use Prim.Native.Nat.{_<_};
 ghost use Rattle.fields.specs.F31.{f31-field};
+use crate::f31;
 use crate::f31::F31;
 use crate::field::Field;
 use crate::refusal::Refusal;
@@ -22,9 +23,9 @@ fn element(number: u32) -> F31
 pub impl Field for F31 as F31Field {
     const ORDER: u64 = 2147483647;
 
-    const ZERO: F31 = F31 { value: 0 };
+    const ZERO: F31 = f31::ZERO;
 
-    const ONE: F31 = F31 { value: 1 };
+    const ONE: F31 = f31::ONE;
 
     ghost field = { f31-field };
 

@@ -2,3 +2,4 @@ mod Elements
 mod Reduction
 mod Tables
 mod Powers
+pub mod Examples

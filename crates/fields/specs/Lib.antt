@@ -5,3 +5,4 @@ pub mod F31
 pub mod PowerTables
 pub mod F257
 pub mod P31
+pub mod Examples

@@ -1,5 +1,7 @@
+pub mod display;
 pub mod f257;
 pub mod f31;
 pub mod field;
 pub mod p31;
 pub mod refusal;
+pub mod worked;

@@ -570,7 +570,7 @@ fn element(number: u16) -> F257
 }
 
 pub impl Field for F257 as F257Field {
-    const ORDER: u64 = 257;
+    const ORDER: u64 = MODULUS as u64;
 
     const ZERO: F257 = F257 { value: 0 };
 

@@ -8,7 +8,7 @@ use crate::p31::P31;
 use crate::refusal::Refusal;
 
 pub impl Field for P31 as P31Field {
-    const ORDER: u64 = 2147483647 * 2147483647;
+    const ORDER: u64 = f31::MODULUS as u64 * f31::MODULUS as u64;
 
     const ZERO: P31 = P31 {
         re: f31::ZERO,

@@ -1,20 +1,17 @@
 -- F31: arithmetic modulo 2147483647.
 use mathlib.Core.Path.{_≡_, refl}
-use mathlib.Core.HLevel.{isProp→PathP}
-use Prim.Native.Nat.{ℕ, _<_}
-use native.Mathlib.Bridge.{le-prop}
 use lib.Dec.{lit<}
 use Rattle.fields.specs.Fields.{FieldOf}
 use Rattle.fields.specs.Laws.Primes.{Prime, prime-by-trial, none-divides}
-use Rattle.fields.specs.Laws.Residues.{Residues, residue-field}
+use Rattle.fields.specs.Laws.Residues.{Residues, below-path, residue-field}
 use Rattle.fields.specs.declared.f31.F31.{F31}
 
 pub f31-prime : Prime 2147483647
 unfolding none-divides
-f31-prime = prime-by-trial 2147483647 16 tt tt tt
+f31-prime = prime-by-trial _ 16 tt tt tt
 
 pub f31-same : (a b : F31) → a .value ≡ b .value → a ≡ b
-f31-same a b e = λ i. record { value = e i; ok = isProp→PathP (λ k. e k < 2147483647) (λ k. le-prop) (a .ok) (b .ok) i }
+f31-same a b e = λ i. record { value = e i; ok = below-path e (a .ok) (b .ok) i }
 
 -- an element means its value
 abbrev pub f31-residues : Residues F31 2147483647

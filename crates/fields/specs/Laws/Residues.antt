@@ -1,8 +1,10 @@
 -- The residues modulo p: a commutative ring for every p above one, and a field where p is a prime.
-use mathlib.Core.Path.{_≡_, refl, sym, ap, _∙_}
+use mathlib.Core.Path.{_≡_, PathP, refl, sym, ap, _∙_}
+use mathlib.Core.HLevel.{isProp→PathP}
 use mathlib.Core.Logic.{_⊎_, inl, inr, ⊎-elim}
 use Prim.Native.Nat.{ℕ, zero, suc, _+_, _-_, _*_, _/_, _%_, _<_, _≤_}
 use native.Mathlib.Nat.{mod-lt, mod-eq-of-lt, mod-self, mod-add-mod, add-mod-mod, zero-mod, add-comm, add-assoc, add-zero, mul-comm, mul-assoc, mul-one, mul-add, le-of-lt, add-sub-of-le}
+use native.Mathlib.Bridge.{le-prop}
 use native.Mathlib.Numerals.{add-one}
 use native.Mathlib.Omega.{arith}
 use Rattle.fields.specs.Fields.{FieldOf, ones-of, most-ones}
@@ -17,6 +19,10 @@ pub record Residues (C : Type 0) (p : ℕ) : Type 0 where
   pub make : (n : ℕ) → n < p → C
   pub value-make : (n : ℕ) (h : n < p) → value (make n h) ≡ n
   pub same : (a b : C) → value a ≡ value b → a ≡ b
+
+-- facts that equal numbers are below p are equal
+pub below-path : {m n p : ℕ} (e : m ≡ n) (a : m < p) (b : n < p) → PathP (λ i. e i < p) a b
+below-path {p = p} e a b = isProp→PathP (λ i. e i < p) (λ i. le-prop) a b
 
 module _ {C : Type 0} {p : ℕ} (c : Residues C p) (positive : 0 < p) where
   open Residues c using (value, below, make, value-make, same)

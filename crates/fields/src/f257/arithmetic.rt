@@ -1,17 +1,35 @@
 // Products go through the powers of 3: the exponents are added.
 ghost use mathlib.Core.Path.{_≡_};
-ghost use Prim.Native.Nat.{_<_};
+ghost use Prim.Native.Nat.{_^_, _%_, _<_};
 ghost use Rattle.fields.specs.F257.{f257-field};
 ghost use Rattle.std.specs.Written.{decimal};
 ghost use Rattle.std.specs.declared.option.Option.the-variants.{Some};
 use crate::f257::F257;
-use crate::f257::exponents::exponent;
-use crate::f257::powers::power;
+use crate::f257::exponents::exponents;
+use crate::f257::powers::powers;
 use crate::field::Field;
 use crate::refusal::Refusal;
 use std::fmt;
 
 const MODULUS: u16 = 257;
+
+// The power of 3 with an exponent.
+fn power(exponent: usize) -> u16
+    requires { ⌜ exponent < 256 ⌝ }
+    ensures { λ r. ⌜ r ≡ 3 ^ exponent % 257 ⌝ }
+{
+    powers()[exponent]
+}
+
+// The exponent below 256 with which 3 gives a number.
+fn exponent(number: u16) -> usize
+    requires positive { ⌜ 0 < number ⌝ }
+    requires below { ⌜ number < 257 ⌝ }
+    ensures below { λ r. ⌜ r < 256 ⌝ }
+    ensures power { λ r. ⌜ 3 ^ r % 257 ≡ number ⌝ }
+{
+    exponents()[number as usize] as usize
+}
 
 // The element for a number below twice the modulus.
 fn element(number: u16) -> F257

@@ -1,21 +1,9 @@
-// The exponents of the powers of 3 modulo 257: each number from 1 to 256 is one.
-ghost use mathlib.Core.Path.{_≡_};
-ghost use Prim.Native.Nat.{_^_, _%_, _<_};
+// The exponents of the powers of 3 modulo 257: at n from 1 on, the exponent below 256 with which 3 gives n.
 ghost use lib.Dec.{T};
 ghost use Rattle.fields.specs.PowerTables.{every, is-exponent};
 
-// The exponent below 256 with which 3 gives a number.
-pub(super) fn exponent(number: u16) -> usize
-    requires positive { ⌜ 0 < number ⌝ }
-    requires below { ⌜ number < 257 ⌝ }
-    ensures below { λ r. ⌜ r < 256 ⌝ }
-    ensures power { λ r. ⌜ 3 ^ r % 257 ≡ number ⌝ }
-{
-    exponents()[number as usize] as usize
-}
-
 // The table, with its rule over all entries. Zero has no exponent: the entry at 0 is never read.
-fn exponents() -> &'static [u16; 257]
+pub(super) fn exponents() -> &'static [u16; 257]
     ensures { λ r. ⌜ T (every is-exponent 0 (now r)) ⌝ }
 {
     &EXPONENTS

@@ -1,19 +1,9 @@
-// The powers of 3 modulo 257.
-ghost use mathlib.Core.Path.{_≡_};
-ghost use Prim.Native.Nat.{_^_, _%_, _<_};
+// The powers of 3 modulo 257: at k, the power with exponent k.
 ghost use lib.Dec.{T};
 ghost use Rattle.fields.specs.PowerTables.{every, is-power};
 
-// The power of 3 with an exponent.
-pub(super) fn power(exponent: usize) -> u16
-    requires { ⌜ exponent < 256 ⌝ }
-    ensures { λ r. ⌜ r ≡ 3 ^ exponent % 257 ⌝ }
-{
-    powers()[exponent]
-}
-
 // The table, with its rule over all entries.
-fn powers() -> &'static [u16; 256]
+pub(super) fn powers() -> &'static [u16; 256]
     ensures { λ r. ⌜ T (every is-power 0 (now r)) ⌝ }
 {
     &POWERS

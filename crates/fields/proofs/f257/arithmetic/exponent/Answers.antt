@@ -1,6 +1,6 @@
 use borrow.Author.Needs.{needs}
 use Rattle.fields.proofs.Tables.{exponent-at}
-use Rattle.fields.proofs.f257.exponents.exponent.Needs as need
+use Rattle.fields.proofs.f257.arithmetic.exponent.Needs as need
 
 pub returns : need.returns
 returns c =

@@ -1,0 +1,4 @@
+mod Reduction
+mod Tables
+mod Powers
+pub mod Examples

@@ -1,2 +1,3 @@
+pub mod f31;
 pub mod field;
 pub mod refusal;

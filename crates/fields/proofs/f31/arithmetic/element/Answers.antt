@@ -1,0 +1,6 @@
+use borrow.Author.Needs.{needs}
+use Rattle.fields.specs.F31.{f31-same}
+use Rattle.fields.proofs.f31.arithmetic.element.Needs as need
+
+pub returns : need.returns
+returns c = f31-same _ _ (search needs)

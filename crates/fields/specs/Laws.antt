@@ -1,0 +1,7 @@
+pub mod Derived
+pub mod Solve
+pub mod Primes
+pub mod Modular
+pub mod Residues
+pub mod Squares
+pub mod Pairs

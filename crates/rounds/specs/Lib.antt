@@ -1,0 +1,4 @@
+pub mod Polynomials
+pub mod Readings
+pub mod Summands
+pub mod Rounds

@@ -1,0 +1,31 @@
+// What the rounds of a sum-check rest on: each theorem is the contract of a function, and holds for the elements of every field.
+ghost use Rattle.rounds.specs.Readings.{Formulas-evaluate, Degrees-add};
+ghost use Rattle.rounds.specs.Rounds.{Round-polynomials-stand, Claims-pass};
+
+// A formula read over polynomials and then evaluated is the formula read over elements.
+pub fn formulas_evaluate<F>() -> u8
+    ensures { λ _. ⌜ Formulas-evaluate F ⌝ }
+{
+    0
+}
+
+// What degree the reading of a formula over polynomials has.
+pub fn degrees_add<F>() -> u8
+    ensures { λ _. ⌜ Degrees-add F ⌝ }
+{
+    0
+}
+
+// The values of a round polynomial are sums of the summand, and it has the degree of the summand.
+pub fn round_polynomials_stand<F>() -> u8
+    ensures { λ _. ⌜ Round-polynomials-stand F ⌝ }
+{
+    0
+}
+
+// A claim that is true after a round was true before, unless a root was taken; a true claim stays true.
+pub fn claims_pass<F>() -> u8
+    ensures { λ _. ⌜ Claims-pass F ⌝ }
+{
+    0
+}

@@ -1,3 +1,5 @@
 pub mod Limits
 pub mod Sizes
 pub mod Formulas
+pub mod Sums
+pub mod Tables

@@ -1,2 +1,3 @@
+pub mod formulas;
 pub mod size;
 pub mod sizes;

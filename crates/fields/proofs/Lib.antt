@@ -1,2 +1,5 @@
 mod Elements
 mod Reduction
+mod Tables
+mod Powers
+pub mod Examples

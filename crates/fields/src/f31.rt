@@ -3,6 +3,12 @@ ghost use Prim.Native.Nat.{_<_};
 
 pub mod arithmetic;
 
+pub(crate) const MODULUS: u32 = 2147483647;
+
+pub(crate) const ZERO: F31 = F31 { value: 0 };
+
+pub(crate) const ONE: F31 = F31 { value: 1 };
+
 // A number below the order; only this module and those below it make one.
 #[derive(Clone, Copy, PartialEq, Eq, Debug)]
 pub struct F31 {

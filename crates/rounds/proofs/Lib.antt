@@ -1,3 +1,7 @@
 pub mod Values
 pub mod Readings
 pub mod Degrees
+pub mod Zeros
+pub mod Rounds
+pub mod Errors
+pub mod Roots

@@ -2,3 +2,5 @@ pub mod Polynomials
 pub mod Readings
 pub mod Summands
 pub mod Rounds
+pub mod Errors
+pub mod Roots

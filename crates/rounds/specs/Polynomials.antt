@@ -1,7 +1,9 @@
 -- Polynomials in one variable with coefficients in a field: lists, constant first.
 use mathlib.Core.Path.{_≡_}
+use mathlib.Core.Bool.{Bool, true, _&&_}
 use mathlib.Core.List.{List, [], _∷_, map}
 use Prim.Native.Nat.{ℕ, zero, suc, _≤_}
+use lib.Dec.{eqb}
 use lib.ListN.{length, getD}
 use Rattle.fields.specs.Fields.{FieldOf, Ops, less}
 
@@ -53,6 +55,11 @@ module _ {F : Type 0} (f : FieldOf F) where
   -- some coefficient is not zero
   abbrev pub Nonzero : List F → Type 0
   Nonzero p = (i : ℕ) × (coefficient p i ≡ f .zero → ⊥)
+
+  -- whether every coefficient is zero
+  abbrev pub is-zero : List F → Bool
+  is-zero [] = true
+  is-zero (a ∷ p) = eqb (f .meaning a) (f .meaning (f .zero)) && is-zero p
 
   -- x is a root of p, and p is not zero
   pub record Root (p : List F) (x : F) : Type 0 where

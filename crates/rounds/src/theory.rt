@@ -1,6 +1,8 @@
 // What the rounds of a sum-check rest on: each theorem is the contract of a function, and holds for the elements of every field.
 ghost use Rattle.rounds.specs.Readings.{Formulas-evaluate, Degrees-add};
 ghost use Rattle.rounds.specs.Rounds.{Round-polynomials-stand, Claims-pass};
+ghost use Rattle.rounds.specs.Errors.{Draws-catch, Draws-bind};
+ghost use Rattle.rounds.specs.Roots.{Roots-are-few};
 
 // A formula read over polynomials and then evaluated is the formula read over elements.
 pub fn formulas_evaluate<F>() -> u8
@@ -26,6 +28,27 @@ pub fn round_polynomials_stand<F>() -> u8
 // A claim that is true after a round was true before, unless a root was taken; a true claim stays true.
 pub fn claims_pass<F>() -> u8
     ensures { λ _. ⌜ Claims-pass F ⌝ }
+{
+    0
+}
+
+// Errors that a draw takes to zero were zero, unless a root was taken.
+pub fn draws_catch<F>() -> u8
+    ensures { λ _. ⌜ Draws-catch F ⌝ }
+{
+    0
+}
+
+// Errors bound at all draws are their extension there.
+pub fn draws_bind<F>() -> u8
+    ensures { λ _. ⌜ Draws-bind F ⌝ }
+{
+    0
+}
+
+// A polynomial that is not zero has no more different roots than its degree.
+pub fn roots_are_few<F>() -> u8
+    ensures { λ _. ⌜ Roots-are-few F ⌝ }
 {
     0
 }

@@ -1,4 +1,5 @@
 pub mod Values
+pub mod Padding
 pub mod Readings
 pub mod Degrees
 pub mod Zeros

@@ -1,4 +1,5 @@
 // What the rounds of a sum-check rest on: each theorem is the contract of a function, and holds for the elements of every field.
+ghost use Rattle.rounds.specs.Padding.{Padding-keeps};
 ghost use Rattle.rounds.specs.Readings.{Formulas-evaluate, Degrees-add};
 ghost use Rattle.rounds.specs.Rounds.{Round-polynomials-stand, Claims-pass};
 ghost use Rattle.rounds.specs.Errors.{Draws-catch, Draws-bind};
@@ -14,6 +15,13 @@ pub fn formulas_evaluate<F>() -> u8
 // What degree the reading of a formula over polynomials has.
 pub fn degrees_add<F>() -> u8
     ensures { λ _. ⌜ Degrees-add F ⌝ }
+{
+    0
+}
+
+// What is kept of polynomials that are filled up with zeros, or cut.
+pub fn padding_keeps<F>() -> u8
+    ensures { λ _. ⌜ Padding-keeps F ⌝ }
 {
     0
 }

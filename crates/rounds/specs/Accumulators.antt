@@ -1,0 +1,27 @@
+-- The polynomial that the code works with: as many coefficients as the longest message has.
+use mathlib.Core.Path.{_≡_}
+use mathlib.Core.Bool.{cond}
+use mathlib.Core.List.{List, [], _∷_, _++_}
+use Prim.Native.Nat.{ℕ, _+_}
+use lib.Dec.{leb}
+use lib.ListN.{length, drop}
+use Rattle.std.specs.declared.result.Result.{Result}
+use Rattle.std.specs.declared.result.Result.the-variants.{Ok, Err}
+use Rattle.fields.specs.Fields.{FieldOf}
+use Rattle.fields.specs.declared.refusal.Refusal.{Refusal}
+use Rattle.fields.specs.declared.refusal.Refusal.the-variants.{TooShort}
+use Rattle.tables.specs.Limits.{most-chunks}
+use Rattle.rounds.specs.Polynomials.{padded}
+use Rattle.rounds.specs.declared.polynomial.Polynomial.{Polynomial}
+
+-- the longest message: the bound of a round is two more than the chunks at most, and a message has one coefficient more
+abbrev pub most-coefficients : ℕ
+most-coefficients = most-chunks + 3
+
+abbrev pub coefficients : {F : Type 0} → Polynomial F → List F
+coefficients p = p .c0 ∷ p .c1 ∷ p .c2 ∷ p .c3 ∷ p .c4 ∷ p .c5 ∷ p .c6 ∷ []
+
+module _ {F : Type 0} (f : FieldOf F) where
+  -- a polynomial's first coefficients, where there is room for them
+  abbrev pub kept : List F → List F
+  kept p = padded f most-coefficients p

@@ -1,0 +1,80 @@
+// Sums of polynomials, and products with lines.
+ghost use mathlib.Core.Path.{_≡_};
+ghost use mathlib.Core.List.{[]};
+ghost use Rattle.tables.specs.Formulas.{less};
+ghost use Rattle.rounds.specs.Polynomials.{poly-add, poly-mul, polynomials, line as the-line, value, coefficient as the-coefficient};
+ghost use Rattle.rounds.specs.Accumulators.{coefficients, kept};
+use crate::polynomial::Polynomial;
+use fields::field::Field;
+
+impl<F: Field> Polynomial<F> {
+    pub fn zero() -> Polynomial<F>
+        ensures { λ r. ⌜ coefficients r ≡ kept (F·Field .field) [] ⌝ }
+    {
+        let zero = F::zero_element();
+        Polynomial {
+            c0: zero,
+            c1: zero,
+            c2: zero,
+            c3: zero,
+            c4: zero,
+            c5: zero,
+            c6: zero,
+        }
+    }
+
+    // The line that is `low` at zero and `high` at one.
+    pub fn line(low: F, high: F) -> Polynomial<F>
+        ensures { λ r. ⌜ coefficients r ≡ kept (F·Field .field) (the-line (F·Field .field) low high) ⌝ }
+    {
+        let mut line = Polynomial::zero();
+        line.c0 = low;
+        line.c1 = high.minus(low);
+        line
+    }
+
+    pub fn plus(self, other: Polynomial<F>) -> Polynomial<F>
+        ensures { λ r. ⌜ coefficients r ≡ poly-add (F·Field .field) (coefficients self) (coefficients other) ⌝ }
+    {
+        Polynomial {
+            c0: self.c0.plus(other.c0),
+            c1: self.c1.plus(other.c1),
+            c2: self.c2.plus(other.c2),
+            c3: self.c3.plus(other.c3),
+            c4: self.c4.plus(other.c4),
+            c5: self.c5.plus(other.c5),
+            c6: self.c6.plus(other.c6),
+        }
+    }
+
+    pub fn minus(self, other: Polynomial<F>) -> Polynomial<F>
+        ensures { λ r. ⌜ coefficients r ≡ less (F·Field .field) (polynomials (F·Field .field)) (coefficients self) (coefficients other) ⌝ }
+    {
+        Polynomial {
+            c0: self.c0.minus(other.c0),
+            c1: self.c1.minus(other.c1),
+            c2: self.c2.minus(other.c2),
+            c3: self.c3.minus(other.c3),
+            c4: self.c4.minus(other.c4),
+            c5: self.c5.minus(other.c5),
+            c6: self.c6.minus(other.c6),
+        }
+    }
+
+    // The product with the line that is `low` at zero and `high` at one. An eighth coefficient is left out, and there is none where c6 is zero.
+    pub fn times_line(self, low: F, high: F) -> Polynomial<F>
+        ensures cut { λ r. ⌜ coefficients r ≡ kept (F·Field .field) (poly-mul (F·Field .field) (coefficients self) (the-line (F·Field .field) low high)) ⌝ }
+        ensures whole { λ r. ⌜ (self .c6 ≡ F·Field .field .zero → (x : F) → value (F·Field .field) (coefficients r) x ≡ F·Field .field .mul (value (F·Field .field) (coefficients self) x) (value (F·Field .field) (the-line (F·Field .field) low high) x)) ⌝ }
+    {
+        let slope = high.minus(low);
+        Polynomial {
+            c0: self.c0.times(low),
+            c1: self.c0.times(slope).plus(self.c1.times(low)),
+            c2: self.c1.times(slope).plus(self.c2.times(low)),
+            c3: self.c2.times(slope).plus(self.c3.times(low)),
+            c4: self.c3.times(slope).plus(self.c4.times(low)),
+            c5: self.c4.times(slope).plus(self.c5.times(low)),
+            c6: self.c5.times(slope).plus(self.c6.times(low)),
+        }
+    }
+}

@@ -3,9 +3,10 @@ ghost use mathlib.Core.Path.{_≡_};
 ghost use mathlib.Core.List.{[]};
 ghost use Rattle.tables.specs.Formulas.{less};
 ghost use Rattle.rounds.specs.Polynomials.{poly-add, poly-mul, polynomials, line as the-line, value, coefficient as the-coefficient};
-ghost use Rattle.rounds.specs.Accumulators.{coefficients, kept};
+ghost use Rattle.rounds.specs.Accumulators.{coefficients, kept, written, write-answer};
 use crate::polynomial::Polynomial;
 use fields::field::Field;
+use fields::refusal::Refusal;
 
 impl<F: Field> Polynomial<F> {
     pub fn zero() -> Polynomial<F>
@@ -76,5 +77,35 @@ impl<F: Field> Polynomial<F> {
             c5: self.c4.times(slope).plus(self.c5.times(low)),
             c6: self.c5.times(slope).plus(self.c6.times(low)),
         }
+    }
+
+    // The coefficient of the power `i` of the variable.
+    fn coefficient(self, i: usize) -> F
+        ensures { λ r. ⌜ r ≡ the-coefficient (F·Field .field) (coefficients self) i ⌝ }
+    {
+        match i {
+            0 => self.c0,
+            1 => self.c1,
+            2 => self.c2,
+            3 => self.c3,
+            4 => self.c4,
+            5 => self.c5,
+            6 => self.c6,
+            _ => F::zero_element(),
+        }
+    }
+
+    // Writes the first `count` coefficients into the first places of the output.
+    pub fn write(self, count: usize, output: &mut [F]) -> Result<(), Refusal>
+        ensures answer { λ r. ⌜ r ≡ write-answer (F·Field .field) count (now (output .entry)) ⌝ }
+        ensures places { λ _. ⌜ now (output .exit) ≡ written (F·Field .field) count (coefficients self) (now (output .entry)) ⌝ }
+    {
+        if output.len() < count {
+            return Err(Refusal::TooShort);
+        }
+        for i in 0..count {
+            output[i] = self.coefficient(i);
+        }
+        Ok(())
     }
 }

@@ -6,3 +6,4 @@ pub mod Zeros
 pub mod Rounds
 pub mod Errors
 pub mod Roots
+pub mod Determined

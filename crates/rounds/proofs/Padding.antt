@@ -7,32 +7,13 @@ use lib.ListN.{length}
 use Rattle.fields.specs.Fields.{FieldOf}
 use Rattle.fields.specs.Laws.Derived.{zero-add, zero-mul}
 use Rattle.fields.specs.Laws.Solve.{con, ⊝, _≐_, solve1}
-use Rattle.rounds.specs.Polynomials.{poly-add, poly-mul, value, coefficient, padded}
+use Rattle.rounds.specs.Polynomials.{poly-add, poly-mul, value, padded}
 use Rattle.rounds.specs.Padding.{Padding}
 use Rattle.rounds.proofs.Values.{value-mul, value-padded}
 
 module _ {F : Type 0} (f : FieldOf F) where
-  neg-zero : f .neg (f .zero) ≡ f .zero
+  pub neg-zero : f .neg (f .zero) ≡ f .zero
   neg-zero = solve1 f (λ x. ⊝ (con 0) ≐ con 0) tt (f .zero)
-
-  coefficient-plus : (p q : List F) (i : ℕ) → coefficient f (poly-add f p q) i ≡ f .add (coefficient f p i) (coefficient f q i)
-  coefficient-plus [] q i = sym (zero-add f (coefficient f q i))
-  coefficient-plus (a ∷ p) [] i = sym (f .add-zero (coefficient f (a ∷ p) i))
-  coefficient-plus (a ∷ p) (b ∷ q) zero = refl
-  coefficient-plus (a ∷ p) (b ∷ q) (suc i) = coefficient-plus p q i
-
-  coefficient-minus : (p : List F) (i : ℕ) → coefficient f (map (f .neg) p) i ≡ f .neg (coefficient f p i)
-  coefficient-minus [] i = sym neg-zero
-  coefficient-minus (a ∷ p) zero = refl
-  coefficient-minus (a ∷ p) (suc i) = coefficient-minus p i
-
-  -- polynomials with the same coefficients are filled up to the same list
-  pub padded-same : (n : ℕ) (p q : List F) → ((i : ℕ) → coefficient f p i ≡ coefficient f q i) → padded f n p ≡ padded f n q
-  padded-same zero p q h = refl
-  padded-same (suc n) [] [] h = refl
-  padded-same (suc n) [] (b ∷ q) h = ap₂ _∷_ (h 0) (padded-same n [] q (λ i. h (suc i)))
-  padded-same (suc n) (a ∷ p) [] h = ap₂ _∷_ (h 0) (padded-same n p [] (λ i. h (suc i)))
-  padded-same (suc n) (a ∷ p) (b ∷ q) h = ap₂ _∷_ (h 0) (padded-same n p q (λ i. h (suc i)))
 
   plus-none : (p : List F) → poly-add f p [] ≡ p
   plus-none [] = refl

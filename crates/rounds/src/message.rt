@@ -1,6 +1,6 @@
 // Messages: lists of coefficients, constant first.
 ghost use mathlib.Core.Path.{_≡_};
-ghost use Rattle.rounds.specs.Polynomials.{value};
+ghost use Rattle.rounds.specs.Polynomials.{value, coefficient};
 use fields::field::Field;
 
 // The value of the message, as a polynomial, at `x`.
@@ -12,4 +12,15 @@ pub fn evaluate<F: Field>(message: &[F], x: F) -> F
         sum = message[i].plus(x.times(sum));
     }
     sum
+}
+
+// The coefficient of the power `i` of the variable, zero past the end of the message.
+pub(crate) fn coefficient_of<F: Field>(message: &[F], i: usize) -> F
+    ensures { λ r. ⌜ r ≡ coefficient (F·Field .field) (now (message .entry)) i ⌝ }
+{
+    if i < message.len() {
+        message[i]
+    } else {
+        F::zero_element()
+    }
 }

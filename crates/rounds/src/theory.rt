@@ -3,7 +3,7 @@ ghost use Rattle.rounds.specs.Padding.{Padding-keeps};
 ghost use Rattle.rounds.specs.Readings.{Formulas-evaluate, Degrees-add};
 ghost use Rattle.rounds.specs.Rounds.{Round-polynomials-stand, Claims-pass};
 ghost use Rattle.rounds.specs.Errors.{Draws-catch, Draws-bind};
-ghost use Rattle.rounds.specs.Roots.{Roots-are-few};
+ghost use Rattle.rounds.specs.Roots.{Roots-are-few, Values-determine};
 
 // A formula read over polynomials and then evaluated is the formula read over elements.
 pub fn formulas_evaluate<F>() -> u8
@@ -57,6 +57,13 @@ pub fn draws_bind<F>() -> u8
 // A polynomial that is not zero has no more different roots than its degree.
 pub fn roots_are_few<F>() -> u8
     ensures { λ _. ⌜ Roots-are-few F ⌝ }
+{
+    0
+}
+
+// Polynomials with the same value at every element have the same coefficients.
+pub fn values_determine<F>() -> u8
+    ensures { λ _. ⌜ Values-determine F ⌝ }
 {
     0
 }

@@ -4,6 +4,7 @@ ghost use mathlib.Core.List.{[]};
 ghost use Rattle.tables.specs.Formulas.{less};
 ghost use Rattle.rounds.specs.Polynomials.{poly-add, poly-mul, polynomials, line as the-line, value, coefficient as the-coefficient};
 ghost use Rattle.rounds.specs.Accumulators.{coefficients, kept, written, write-answer};
+use crate::message::coefficient_of;
 use crate::polynomial::Polynomial;
 use fields::field::Field;
 use fields::refusal::Refusal;
@@ -24,13 +25,40 @@ impl<F: Field> Polynomial<F> {
         }
     }
 
+    // The polynomial of a message, of which the first seven coefficients are taken.
+    pub fn from_message(message: &[F]) -> Polynomial<F>
+        ensures { λ r. ⌜ coefficients r ≡ kept (F·Field .field) (now (message .entry)) ⌝ }
+    {
+        Polynomial {
+            c0: coefficient_of(message, 0),
+            c1: coefficient_of(message, 1),
+            c2: coefficient_of(message, 2),
+            c3: coefficient_of(message, 3),
+            c4: coefficient_of(message, 4),
+            c5: coefficient_of(message, 5),
+            c6: coefficient_of(message, 6),
+        }
+    }
+
+    pub fn value_at(self, x: F) -> F
+        ensures { λ r. ⌜ r ≡ value (F·Field .field) (coefficients self) x ⌝ }
+    {
+        let sum = self.c5.plus(x.times(self.c6));
+        let sum = self.c4.plus(x.times(sum));
+        let sum = self.c3.plus(x.times(sum));
+        let sum = self.c2.plus(x.times(sum));
+        let sum = self.c1.plus(x.times(sum));
+        self.c0.plus(x.times(sum))
+    }
+
     // The line that is `low` at zero and `high` at one.
     pub fn line(low: F, high: F) -> Polynomial<F>
         ensures { λ r. ⌜ coefficients r ≡ kept (F·Field .field) (the-line (F·Field .field) low high) ⌝ }
     {
+        let (constant, slope) = (low, high.minus(low));
         let mut line = Polynomial::zero();
-        line.c0 = low;
-        line.c1 = high.minus(low);
+        line.c0 = constant;
+        line.c1 = slope;
         line
     }
 

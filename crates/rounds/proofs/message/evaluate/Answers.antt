@@ -24,5 +24,5 @@ loop-i-holds g c =
 pub loop-i-again : need.loop-i-again
 loop-i-again g c =
     let f = g .F·Field .field in
-    let next = one-more f (c .args .message .now) (c .loop-i .i) (c .index-message-i .result) (c .args .x) (c .loop-i-test .taken) (c .loop-i .kept .i) (c .index-message-i .is) in
+    let next = one-more f (c .args .message .now) (c .loop-i .i) (c .index-message-i .result) (c .args .x) (omega arith) (omega arith) (c .index-message-i .is) in
     cc

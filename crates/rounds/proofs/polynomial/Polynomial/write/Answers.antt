@@ -23,14 +23,14 @@ one-more f zero (a ∷ p) (x ∷ output) h = refl
 one-more f (suc i) [] (x ∷ output) h = ap (λ s. f .zero ∷ s) (one-more f i [] output (omega arith))
 one-more f (suc i) (a ∷ p) (x ∷ output) h = ap (λ s. a ∷ s) (one-more f i p output (omega arith))
 
+next : {F : Type 0} (f : FieldOf F) (i : ℕ) (p output now : List F) (a : F) → i < length output
+    → now ≡ padded f i p ++ drop i output → a ≡ coefficient f p i → set now i a ≡ padded f (i + 1) p ++ drop (i + 1) output
+next f i p output now a h is a-is =
+    ap₂ (λ s v. set s i v) is a-is ∙ one-more f i p output h ∙ ap (λ (n : ℕ). padded f n p ++ drop n output) (sym (add-one i))
+
 pub loop-i-again : need.loop-i-again
 loop-i-again g c =
-    let f = g .F·Field .field in
-    let p = coefficients (c .args .self) in
-    let i = c .loop-i .i in
-    ap₂ (λ s v. set s i v) (c .loop-i .inv) (c .coefficient .ensures)
-    ∙ one-more f i p (c .args .output .now) (omega arith)
-    ∙ ap (λ (n : ℕ). padded f n p ++ drop n (c .args .output .now)) (sym (add-one i))
+    next (g .F·Field .field) (c .loop-i .i) (coefficients (c .args .self)) (c .args .output .now) (c .loop-i .output) (c .coefficient .result) (omega arith) (c .loop-i .inv) (c .coefficient .ensures)
 
 pub returns : need.returns
 returns g c =

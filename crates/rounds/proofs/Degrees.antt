@@ -1,13 +1,15 @@
 -- The degrees of the formulas, from the degrees of the coordinates of their points.
 use mathlib.Core.Path.{_≡_, refl}
 use mathlib.Core.List.{List, [], _∷_, _++_, map}
-use Prim.Native.Nat.{ℕ, zero, suc, _+_, _-_, _^_, _≤_}
+use Prim.Native.Nat.{ℕ, zero, suc, _+_, _-_, _^_, _≤_, _<_}
 use native.Mathlib.Omega.{arith}
-use lib.ListN.{length, length-map}
+use lib.ListN.{length, take, drop, length-map}
 use Rattle.fields.specs.Fields.{FieldOf, Ops}
 use Rattle.tables.specs.Formulas.{less, eq-pair, eq, lt, cube-sum, extension}
 use Rattle.rounds.specs.Polynomials.{Degree, poly-add, poly-mul, polynomials}
 use Rattle.rounds.specs.Readings.{degrees, Degrees}
+use Rattle.rounds.specs.Summands.{round-point}
+use Rattle.rounds.specs.Rounds.{Round-variable}
 
 pub weaken : {F : Type 0} {a b : ℕ} {p : List F} → a ≤ b → Degree a p → Degree b p
 weaken h d = record { within = omega (arith, d .within) }
@@ -83,6 +85,8 @@ module _ {F : Type 0} (f : FieldOf F) where
 
   pub degrees-add : Degrees f
   degrees-add = record {
+    of-consts = degrees-consts;
+    of-append = degrees-append;
     of-less = degree-less;
     of-plus = degree-plus;
     of-times = degree-times;
@@ -91,3 +95,27 @@ module _ {F : Type 0} (f : FieldOf F) where
     of-cube-sum = degree-cube-sum;
     of-extension = degree-extension;
   }
+
+  consts-take : (k : ℕ) (b : List F) → degrees (take k (map (λ a. a ∷ []) b)) ≡ 0
+  consts-take zero b = refl
+  consts-take (suc k) [] = refl
+  consts-take (suc k) (x ∷ b) = omega (arith, consts-take k b)
+
+  consts-drop : (k : ℕ) (b : List F) → degrees (drop k (map (λ a. a ∷ []) b)) ≡ 0
+  consts-drop zero b = degrees-consts b
+  consts-drop (suc k) [] = refl
+  consts-drop (suc k) (x ∷ b) = consts-drop k b
+
+  before : (k : ℕ) (r b : List F) → length r < k → (degrees (take k (round-point f r b)) ≡ 1) × (degrees (drop k (round-point f r b)) ≡ 0)
+  before zero r b h = absurd (omega arith)
+  before (suc k) [] b h = (omega (arith, consts-take k b), consts-drop k b)
+  before (suc k) (x ∷ r) b h = let rest = before k r b (omega arith) in (omega (arith, rest .0), rest .1)
+
+  after : (k : ℕ) (r b : List F) → k ≤ length r → (degrees (take k (round-point f r b)) ≡ 0) × (degrees (drop k (round-point f r b)) ≡ 1)
+  after zero [] b h = (refl, omega (arith, degrees-consts b))
+  after zero (x ∷ r) b h = let rest = after 0 r b (omega arith) in (refl, omega (arith, rest .1))
+  after (suc k) [] b h = absurd (omega arith)
+  after (suc k) (x ∷ r) b h = let rest = after k r b (omega arith) in (omega (arith, rest .0), rest .1)
+
+  pub round-variable : (k : ℕ) (r b : List F) → Round-variable f k r b
+  round-variable k r b = record { before = before k r b; after = after k r b }

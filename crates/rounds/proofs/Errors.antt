@@ -10,22 +10,23 @@ use native.Mathlib.Nat.{two-pow-succ}
 use lib.ListN.{length}
 use Rattle.std.specs.Iters.{counting}
 use Rattle.fields.specs.Fields.{FieldOf, elements}
-use Rattle.fields.specs.Laws.Solve.{con, _⊕_, _⊖_, _⊗_, _≐_, solve1, solve3, solve6}
+use Rattle.fields.specs.Laws.Solve.{con, _⊕_, _⊖_, _⊗_, _≐_, solve1, solve6}
 use Rattle.fields.specs.Laws.Derived.{equal-of-less}
 use Rattle.tables.specs.Formulas.{between, extension}
 use Rattle.tables.proofs.Extension.{ext-none, ext-halves}
 use Rattle.rounds.specs.Polynomials.{Degree, Root, Zero, Nonzero, line, value, is-zero}
-use Rattle.rounds.specs.Errors.{All-zero, bind, bound, first-nonzero, draw-gap, Draw, Draws}
+use Rattle.rounds.specs.Errors.{All-zero, bind, bound-at, first-nonzero, draw-gap, Draw, Draws}
+use Rattle.rounds.proofs.Values.{line-value}
 use Rattle.rounds.proofs.Zeros.{element-zero-or-not, zero-or-not}
 
 -- one more draw
 bound-more : {F : Type 0} (f : FieldOf F) (n : ℕ) (e : ℕ → F) (gs : List F) (g : F) → length gs < n
-    → bound f n e (gs ++ (g ∷ [])) ≡ bind f (n - suc (length gs)) (bound f n e gs) g
+    → bound-at f n e (gs ++ (g ∷ [])) ≡ bind f (n - suc (length gs)) (bound-at f n e gs) g
 bound-more f zero e [] g h = absurd (omega arith)
 bound-more f zero e (k ∷ gs) g h = absurd (omega arith)
 bound-more f (suc n) e [] g h = ap (λ (z : ℕ). bind f z e g) (omega arith)
 bound-more f (suc n) e (k ∷ gs) g h =
-    bound-more f n (bind f n e k) gs g (omega arith) ∙ ap (λ (z : ℕ). bind f z (bound f n (bind f n e k) gs) g) (omega arith)
+    bound-more f n (bind f n e k) gs g (omega arith) ∙ ap (λ (z : ℕ). bind f z (bound-at f n (bind f n e k) gs) g) (omega arith)
 
 module _ {F : Type 0} (f : FieldOf F) where
   abbrev ext : ℕ → (ℕ → F) → List F → F
@@ -46,7 +47,7 @@ module _ {F : Type 0} (f : FieldOf F) where
       g x (ext n e p) (ext n h p) (ext n (λ i. e (2 ^ n + i)) p) (ext n (λ i. h (2 ^ n + i)) p)
       ∙ sym (ap₂ (mix g) (ext-halves f n e x p) (ext-halves f n h x p))
 
-  bound-all : (n : ℕ) (e : ℕ → F) (gs : List F) → length gs ≡ n → bound f n e gs 0 ≡ ext n e gs
+  bound-all : (n : ℕ) (e : ℕ → F) (gs : List F) → length gs ≡ n → bound-at f n e gs 0 ≡ ext n e gs
   bound-all zero e [] h = sym (ext-none f e [])
   bound-all zero e (g ∷ gs) h = absurd (omega arith)
   bound-all (suc n) e [] h = absurd (omega arith)
@@ -57,9 +58,6 @@ module _ {F : Type 0} (f : FieldOf F) where
 
   pub draws : (n : ℕ) (e : ℕ → F) (gs : List F) → Draws f n e gs
   draws n e gs = record { one-more = bound-more f n e gs; all = bound-all n e gs }
-
-  line-value : (low high g : F) → value f (line f low high) g ≡ mix g low high
-  line-value = solve3 f (λ x y g. x ⊕ g ⊗ ((y ⊖ x) ⊕ g ⊗ con 0) ≐ (con 1 ⊖ g) ⊗ x ⊕ g ⊗ y) tt
 
   -- a line that is zero has zeros at both ends
   zero-ends : (low high : F) → Zero f (line f low high) → (low ≡ f .zero) × (high ≡ f .zero)
@@ -99,7 +97,7 @@ module _ {F : Type 0} (f : FieldOf F) where
     sound : Root f (draw-gap f n e) g ⊎ (All-zero f n (bind f n e g) → All-zero f (suc n) e)
     sound = elim (searched lines 0 (2 ^ n)) [
       | found b k z s ↦ elim (element-zero-or-not f (bind f n e g b)) [
-        | inl v ↦ inl (record { nonzero = subst (Nonzero f) (sym s) z; vanishes = ap (λ p. value f p g) s ∙ line-value (e b) (e (2 ^ n + b)) g ∙ v .1 })
+        | inl v ↦ inl (record { nonzero = subst (Nonzero f) (sym s) z; vanishes = ap (λ p. value f p g) s ∙ line-value f (e b) (e (2 ^ n + b)) g ∙ v .1 })
         | inr v ↦ inr (λ h. absurd (v .1 (h b (omega arith))))
       ]
       | none z ↦ inr (λ h i k. elim (decLt i (2 ^ n)) [

@@ -1,13 +1,15 @@
 -- The value of a sum, a product and a negative of polynomials.
-use mathlib.Core.Path.{_≡_, refl, sym, ap, _∙_}
+use mathlib.Core.Path.{_≡_, refl, sym, ap, ap₂, _∙_}
 use mathlib.Core.List.{List, [], _∷_, map}
 use Prim.Native.Nat.{ℕ, zero, suc, _≤_}
 use native.Mathlib.Omega.{arith}
 use lib.ListN.{length}
-use Rattle.fields.specs.Fields.{FieldOf}
-use Rattle.fields.specs.Laws.Derived.{zero-add, mul-zero, zero-mul}
+use Rattle.fields.specs.Fields.{FieldOf, elements}
+use Rattle.fields.specs.Laws.Derived.{mul-left-comm, zero-add, mul-zero, zero-mul}
 use Rattle.fields.specs.Laws.Solve.{con, _⊕_, _⊖_, _⊗_, ⊝, _≐_, solve1, solve2, solve3, solve4, solve5}
-use Rattle.rounds.specs.Polynomials.{poly-add, poly-mul, X, value, padded}
+use Rattle.tables.specs.Formulas.{between}
+use Rattle.tables.specs.Sums.{sum-below}
+use Rattle.rounds.specs.Polynomials.{poly-add, poly-mul, X, line, value, coefficient, power, power-sum, padded}
 
 module _ {F : Type 0} (f : FieldOf F) where
   open FieldOf f using (add, mul, neg)
@@ -44,9 +46,26 @@ module _ {F : Type 0} (f : FieldOf F) where
   pub value-X : (x : F) → value f (X f) x ≡ x
   value-X = solve1 f (λ x. con 0 ⊕ x ⊗ (con 1 ⊕ x ⊗ con 0) ≐ x) tt
 
+  pub line-value : (low high x : F) → value f (line f low high) x ≡ between f (elements f) x low high
+  line-value = solve3 f (λ a b x. a ⊕ x ⊗ ((b ⊖ a) ⊕ x ⊗ con 0) ≐ (con 1 ⊖ x) ⊗ a ⊕ x ⊗ b) tt
+
   -- zeros at the end do not change the value
   pub value-padded : (n : ℕ) (p : List F) (x : F) → length p ≤ n → value f (padded f n p) x ≡ value f p x
   value-padded zero [] x h = refl
   value-padded zero (a ∷ p) x h = absurd (omega arith)
   value-padded (suc n) [] x h = ap (λ z. add (f .zero) (mul x z)) (value-padded n [] x (omega arith)) ∙ solve1 f (λ x. con 0 ⊕ x ⊗ con 0 ≐ con 0) tt x
   value-padded (suc n) (a ∷ p) x h = ap (λ z. add a (mul x z)) (value-padded n p x (omega arith))
+
+  -- a sum whose terms after the first are x times those of another
+  sum-shifted : (n : ℕ) (g h : ℕ → F) (x : F) → ((i : ℕ) → h (suc i) ≡ mul x (g i)) → sum-below f (suc n) h ≡ add (h 0) (mul x (sum-below f n g))
+  sum-shifted zero g h x e = solve2 f (λ a x. con 0 ⊕ a ≐ a ⊕ x ⊗ con 0) tt (h 0) x
+  sum-shifted (suc n) g h x e =
+      ap₂ add (sum-shifted n g h x e) (e n)
+      ∙ solve4 f (λ a x s b. (a ⊕ x ⊗ s) ⊕ x ⊗ b ≐ a ⊕ x ⊗ (s ⊕ b)) tt (h 0) x (sum-below f n g) (g n)
+
+  pub value-by-powers : (p : List F) (x : F) → value f p x ≡ power-sum f p x
+  value-by-powers [] x = refl
+  value-by-powers (a ∷ p) x =
+      ap₂ (λ b v. add b (mul x v)) (sym (f .mul-one a)) (value-by-powers p x)
+      ∙ sym (sum-shifted (length p) (λ i. mul (coefficient f p i) (power f x i)) (λ i. mul (coefficient f (a ∷ p) i) (power f x i)) x
+      (λ i. mul-left-comm f (coefficient f p i) x (power f x i)))

@@ -18,17 +18,19 @@ use Rattle.rounds.specs.declared.polynomial.Polynomial.{Polynomial}
 abbrev pub most-coefficients : ℕ
 most-coefficients = most-chunks + 3
 
+-- the coefficients, constant first
 abbrev pub coefficients : {F : Type 0} → Polynomial F → List F
 coefficients p = p .c0 ∷ p .c1 ∷ p .c2 ∷ p .c3 ∷ p .c4 ∷ p .c5 ∷ p .c6 ∷ []
 
 module _ {F : Type 0} (f : FieldOf F) where
-  -- as many coefficients of p as there is room for
+  -- p with as many coefficients as there is room for
   abbrev pub kept : List F → List F
   kept p = padded f most-coefficients p
 
-  -- a list that is asked to take so many coefficients: its first places take them, and it is refused if it has not so many
+  -- an output list after it was given the first `count` coefficients of p: its first places have them; one that is too short is as before
   abbrev pub written : ℕ → List F → List F → List F
   written count p output = cond (leb count (length output)) (padded f count p ++ drop count output) output
 
+  -- and what is answered
   abbrev pub write-answer : ℕ → List F → Result (Unit {0}) Refusal
   write-answer count output = cond (leb count (length output)) (Ok tt) (Err TooShort)

@@ -12,6 +12,7 @@ use Rattle.rounds.specs.Polynomials.{Degree, Root, line, is-zero}
 
 -- The errors e of n variables are e 0, e 1, .. up to, and without, e (2 ^ n). Those with the first variable zero come first.
 module _ {F : Type 0} (f : FieldOf F) where
+  -- each error is zero
   abbrev pub All-zero : ℕ → (ℕ → F) → Type 0
   All-zero n e = (i : ℕ) → i < 2 ^ n → e i ≡ f .zero
 
@@ -20,12 +21,12 @@ module _ {F : Type 0} (f : FieldOf F) where
   bind n e g b = between f (elements f) g (e b) (e (2 ^ n + b))
 
   -- errors of n variables bound at draws in turn
-  abbrev pub bound : ℕ → (ℕ → F) → List F → ℕ → F
-  bound n e [] = e
-  bound zero e (g ∷ gs) = e
-  bound (suc n) e (g ∷ gs) = bound n (bind n e g) gs
+  abbrev pub bound-at : ℕ → (ℕ → F) → List F → ℕ → F
+  bound-at n e [] = e
+  bound-at zero e (g ∷ gs) = e
+  bound-at (suc n) e (g ∷ gs) = bound-at n (bind n e g) gs
 
-  -- the first that is not zero, and the zero polynomial if there is none
+  -- the first polynomial that is not zero, and zero if there is none
   abbrev pub first-nonzero : List (List F) → List F
   first-nonzero [] = []
   first-nonzero (p ∷ ps) = let later = first-nonzero ps in cond (is-zero f p) later p
@@ -38,15 +39,17 @@ module _ {F : Type 0} (f : FieldOf F) where
 pub record Draw {F : Type 0} (f : FieldOf F) (n : ℕ) (e : ℕ → F) (g : F) : Type 0 where
   -- errors that are all zero once bound were all zero, unless the draw is a root of its gap
   pub sound : Root f (draw-gap f n e) g ⊎ (All-zero f n (bind f n e g) → All-zero f (suc n) e)
+  -- the gap is a line
   pub gap-degree : Degree 1 (draw-gap f n e)
+  -- errors that are all zero stay so
   pub complete : All-zero f (suc n) e → All-zero f n (bind f n e g)
 
 -- errors of n variables and a stage's draws
 pub record Draws {F : Type 0} (f : FieldOf F) (n : ℕ) (e : ℕ → F) (gs : List F) : Type 0 where
   -- one more draw binds what is bound
-  pub one-more : (g : F) → length gs < n → bound f n e (gs ++ (g ∷ [])) ≡ bind f (n - suc (length gs)) (bound f n e gs) g
+  pub one-more : (g : F) → length gs < n → bound-at f n e (gs ++ (g ∷ [])) ≡ bind f (n - suc (length gs)) (bound-at f n e gs) g
   -- bound at a draw for each variable they are their extension at the draws
-  pub all : length gs ≡ n → bound f n e gs 0 ≡ extension f (elements f) n e gs
+  pub all : length gs ≡ n → bound-at f n e gs 0 ≡ extension f (elements f) n e gs
 
 abbrev pub Draws-catch : Type 0 → Type 0
 Draws-catch F = (f : FieldOf F) (n : ℕ) (e : ℕ → F) (g : F) → Draw f n e g

@@ -6,17 +6,20 @@ use Prim.Native.Nat.{ℕ, zero, suc, _≤_}
 use lib.Dec.{eqb}
 use lib.ListN.{length, getD}
 use Rattle.fields.specs.Fields.{FieldOf, Ops, less}
+use Rattle.tables.specs.Sums.{sum-below}
 
 -- p has the degree n at most: no more than n + 1 coefficients
 pub record Degree {F : Type 0} (n : ℕ) (p : List F) : Type 0 where
   pub within : length p ≤ suc n
 
 module _ {F : Type 0} (f : FieldOf F) where
+  -- the sum, coefficient by coefficient
   abbrev pub poly-add : List F → List F → List F
   poly-add [] q = q
   poly-add (a ∷ p) [] = a ∷ p
   poly-add (a ∷ p) (b ∷ q) = f .add a b ∷ poly-add p q
 
+  -- the product: each coefficient of p times q, moved up by its power
   abbrev pub poly-mul : List F → List F → List F
   poly-mul [] q = []
   poly-mul (a ∷ p) q = poly-add (map (f .mul a) q) (f .zero ∷ poly-mul p q)
@@ -42,7 +45,16 @@ module _ {F : Type 0} (f : FieldOf F) where
   abbrev pub coefficient : List F → ℕ → F
   coefficient p i = getD p i (f .zero)
 
-  -- p with n coefficients: filled up with zeros; what is past the first n is left out
+  -- x multiplied by itself i times
+  abbrev pub power : F → ℕ → F
+  power x zero = f .one
+  power x (suc i) = f .mul x (power x i)
+
+  -- the value of a polynomial at x as the sum of its coefficients, each times its power of x
+  abbrev pub power-sum : List F → F → F
+  power-sum p x = sum-below f (length p) (λ i. f .mul (coefficient p i) (power x i))
+
+  -- p with n coefficients: filled up with zeros, and what is past the first n is left out
   abbrev pub padded : ℕ → List F → List F
   padded zero p = []
   padded (suc n) [] = f .zero ∷ padded n []

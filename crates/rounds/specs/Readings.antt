@@ -1,6 +1,6 @@
 -- A formula read over polynomials and then evaluated at x is the formula read over elements, at x; and the degree that a reading has.
 use mathlib.Core.Path.{_≡_}
-use mathlib.Core.List.{List, [], _∷_, map}
+use mathlib.Core.List.{List, [], _∷_, _++_, map}
 use Prim.Native.Nat.{ℕ, _+_, _-_}
 use lib.ListN.{length}
 use Rattle.fields.specs.Fields.{FieldOf, elements}
@@ -30,8 +30,10 @@ module _ {F : Type 0} (f : FieldOf F) where
     pub on-extension : (n : ℕ) (e : ℕ → F) (ps : List (List F))
         → value f (extension f (polynomials f) n e ps) x ≡ extension f (elements f) n e (values x ps)
 
-  -- the degrees of sums, products and formulas
+  -- the degrees of points, sums, products and formulas
   pub record Degrees : Type 0 where
+    pub of-consts : (b : List F) → degrees (map (λ a. a ∷ []) b) ≡ 0
+    pub of-append : (ps qs : List (List F)) → degrees (ps ++ qs) ≡ degrees ps + degrees qs
     pub of-less : {d : ℕ} {p q : List F} → Degree d p → Degree d q → Degree d (less f (polynomials f) p q)
     pub of-plus : {d : ℕ} {p q : List F} → Degree d p → Degree d q → Degree d (poly-add f p q)
     pub of-times : {a b : ℕ} {p q : List F} → Degree a p → Degree b q → Degree (a + b) (poly-mul f p q)

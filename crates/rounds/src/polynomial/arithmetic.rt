@@ -1,7 +1,8 @@
 // Sums of polynomials, and products with lines.
 ghost use mathlib.Core.Path.{_≡_};
 ghost use mathlib.Core.List.{[]};
-ghost use Rattle.tables.specs.Formulas.{less};
+ghost use Rattle.fields.specs.Fields.{elements};
+ghost use Rattle.tables.specs.Formulas.{less, between};
 ghost use Rattle.rounds.specs.Polynomials.{poly-add, poly-mul, polynomials, line as the-line, value, coefficient as the-coefficient};
 ghost use Rattle.rounds.specs.Accumulators.{coefficients, kept, written, write-answer};
 use crate::message::coefficient_of;
@@ -53,7 +54,8 @@ impl<F: Field> Polynomial<F> {
 
     // The line that is `low` at zero and `high` at one.
     pub fn line(low: F, high: F) -> Polynomial<F>
-        ensures { λ r. ⌜ coefficients r ≡ kept (F·Field .field) (the-line (F·Field .field) low high) ⌝ }
+        ensures two { λ r. ⌜ coefficients r ≡ kept (F·Field .field) (the-line (F·Field .field) low high) ⌝ }
+        ensures through { λ r. ⌜ ((x : F) → value (F·Field .field) (coefficients r) x ≡ between (F·Field .field) (elements (F·Field .field)) x low high) ⌝ }
     {
         let (constant, slope) = (low, high.minus(low));
         let mut line = Polynomial::zero();

@@ -5,7 +5,8 @@ use native.Mathlib.Omega.{arith}
 use lib.ListN.{length, drop, getD}
 use lib.Seq.{drop-length, drop-cons}
 use Rattle.fields.specs.Fields.{FieldOf}
-use Rattle.rounds.specs.Polynomials.{value}
+use Rattle.rounds.specs.Polynomials.{value, power-sum}
+use Rattle.rounds.proofs.Values.{value-by-powers}
 use Rattle.rounds.proofs.message.evaluate.Needs as need
 
 -- one more coefficient, before those that are done
@@ -26,3 +27,12 @@ loop-i-again g c =
     let f = g .F·Field .field in
     let next = one-more f (c .args .message .now) (c .loop-i .i) (c .index-message-i .result) (c .args .x) (omega arith) (omega arith) (c .index-message-i .is) in
     cc
+
+-- all coefficients done
+all-done : {F : Type 0} (f : FieldOf F) (p : List F) (i : ℕ) (x sum : F) → i ≡ 0 → sum ≡ value f (drop i p) x → (sum ≡ value f p x) × (sum ≡ power-sum f p x)
+all-done f p i x sum h inv = let all = inv ∙ ap (λ (n : ℕ). value f (drop n p) x) h in (all, all ∙ value-by-powers f p x)
+
+pub returns : need.returns
+returns g c =
+    let both = all-done (g .F·Field .field) (c .args .message .now) (c .loop-i .i) (c .args .x) _ (omega arith) (c .loop-i .inv) in
+    record { value = both .0; powers = both .1 }

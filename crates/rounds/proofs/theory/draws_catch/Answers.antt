@@ -1,5 +1,5 @@
-use Rattle.rounds.proofs.Errors.{draw}
+use Rattle.rounds.proofs.Errors.{draw, draws}
 use Rattle.rounds.proofs.theory.draws_catch.Needs as need
 
 pub returns : need.returns
-returns k c = λ f n e g. draw f n e g
+returns g c = record { one = λ f n e x. draw f n e x; all = λ f n e xs. draws f n e xs }

@@ -1,2 +1,4 @@
-mod Elements
 mod Reduction
+mod Tables
+mod Powers
+pub mod Examples

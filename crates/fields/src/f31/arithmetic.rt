@@ -2,11 +2,17 @@
 ghost use mathlib.Core.Path.{_≡_};
 ghost use Prim.Native.Nat.{_<_};
 ghost use Rattle.fields.specs.F31.{f31-field};
+ghost use Rattle.std.specs.Written.{decimal};
+ghost use Rattle.std.specs.declared.option.Option.the-variants.{Some};
+use crate::f31;
 use crate::f31::F31;
+use crate::f31::MODULUS;
 use crate::field::Field;
 use crate::refusal::Refusal;
+use std::fmt;
 
-const MODULUS: u32 = 2147483647;
+// The bits below 31.
+const LOW_BITS: u64 = 2147483647;
 
 // The element for a number below twice the modulus: the number, less the modulus if it is not below it.
 // Where it is below, the difference wraps around and is the greater of the two, so that no branch is needed.
@@ -20,11 +26,11 @@ fn element(number: u32) -> F31
 }
 
 pub impl Field for F31 as F31Field {
-    const ORDER: u64 = 2147483647;
+    const ORDER: u64 = MODULUS as u64;
 
-    const ZERO: F31 = F31 { value: 0 };
+    const ZERO: F31 = f31::ZERO;
 
-    const ONE: F31 = F31 { value: 1 };
+    const ONE: F31 = f31::ONE;
 
     ghost field = { f31-field };
 
@@ -42,9 +48,7 @@ pub impl Field for F31 as F31Field {
 
     fn from_number(number: u64) -> Result<F31, Refusal> {
         if number < Self::ORDER {
-            Ok(F31 {
-                value: number as u32,
-            })
+            Ok(element(number as u32))
         } else {
             Err(Refusal::NotBelowOrder)
         }
@@ -64,7 +68,7 @@ pub impl Field for F31 as F31Field {
 
     fn times(self, other: F31) -> F31 {
         let product = self.value as u64 * other.value as u64;
-        element((product & 2147483647) as u32 + (product >> 31) as u32)
+        element((product & LOW_BITS) as u32 + (product >> 31) as u32)
     }
 
     fn negated(self) -> F31 {
@@ -73,5 +77,14 @@ pub impl Field for F31 as F31Field {
 
     fn equals(self, other: F31) -> bool {
         self.value == other.value
+    }
+}
+
+// An element shows itself as the decimal number that it means.
+pub impl fmt::Display for F31 as F31Display {
+    ghost shown = { λ x. Some (decimal (f31-field .meaning x)) };
+
+    fn fmt<W: fmt::Write>(&self, f: &mut fmt::Formatter<W>) -> fmt::Result {
+        fmt::Display::fmt(&self.to_number(), f)
     }
 }

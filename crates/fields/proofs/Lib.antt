@@ -1,4 +1,3 @@
-mod Elements
 mod Reduction
 mod Tables
 mod Powers

@@ -11,13 +11,15 @@ use Rattle.fields.specs.declared.f257.F257.{F257}
 use Rattle.fields.specs.declared.p31.P31.{P31}
 use Rattle.fields.specs.declared.refusal.Refusal.the-variants.{NotBelowOrder}
 
--- the elements that mean a number, and the pair of two
+-- the element of F31 that means n
 abbrev f31 : ℕ → F31
 f31 n = f31-field .element n
 
+-- the element of F257 that means n
 abbrev f257 : ℕ → F257
 f257 n = f257-field .element n
 
+-- the pair (a, b) of P31
 abbrev p31 : ℕ → ℕ → P31
 p31 a b = record { re = f31 a; im = f31 b }
 

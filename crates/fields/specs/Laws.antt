@@ -1,4 +1,5 @@
 pub mod Derived
+pub mod Expressions
 pub mod Solve
 pub mod Primes
 pub mod Modular

@@ -1,5 +1,5 @@
 -- The rules of the tables of F257: its powers of 3, and their exponents.
-use mathlib.Core.Bool.{Bool, true, false}
+use mathlib.Core.Bool.{Bool, true}
 use mathlib.Core.List.{List, [], _∷_}
 use Prim.Native.Nat.{ℕ, zero, suc, _%_, _^_}
 use lib.Dec.{eqb, ltb}

@@ -1,7 +1,9 @@
 // The field of the residues modulo 2147483647.
 ghost use Prim.Native.Nat.{_<_};
+pub use arithmetic::F31Display;
+pub use arithmetic::F31Field;
 
-pub mod arithmetic;
+mod arithmetic;
 
 pub(crate) const MODULUS: u32 = 2147483647;
 

@@ -1,4 +1,3 @@
-pub mod display;
 pub mod f257;
 pub mod f31;
 pub mod field;

@@ -2,8 +2,10 @@
 use crate::f31::F31;
 use crate::f31::F31Debug;
 use crate::f31::F31PartialEq;
+pub use arithmetic::P31Display;
+pub use arithmetic::P31Field;
 
-pub mod arithmetic;
+mod arithmetic;
 
 // re + im·i, where i·i is minus one.
 #[derive(Clone, Copy, PartialEq, Eq, Debug)]

@@ -1,18 +1,18 @@
 // Against arithmetic by remainders, and at the edges.
-use crate::display::P31Display;
 use crate::f31::F31;
 use crate::f31::F31Debug;
+use crate::f31::F31Field;
 use crate::f31::F31PartialEq;
-use crate::f31::arithmetic::F31Field;
 use crate::f257::F257;
 use crate::f257::F257Debug;
+use crate::f257::F257Field;
 use crate::f257::F257PartialEq;
-use crate::f257::arithmetic::F257Field;
 use crate::field::Field;
 use crate::p31::P31;
 use crate::p31::P31Debug;
+use crate::p31::P31Display;
+use crate::p31::P31Field;
 use crate::p31::P31PartialEq;
-use crate::p31::arithmetic::P31Field;
 use crate::refusal::Refusal;
 use crate::refusal::RefusalDebug;
 use crate::refusal::RefusalPartialEq;

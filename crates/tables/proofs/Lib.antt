@@ -1,8 +1,12 @@
 pub mod Tests
-pub mod Bounds
 pub mod Points
 pub mod Variables
 pub mod Cube
 pub mod Extension
 pub mod Halves
 pub mod Opened
+pub mod Weights
+pub mod Entries
+pub mod Doubling
+pub mod Hot
+pub mod Addresses

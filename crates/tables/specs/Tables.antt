@@ -1,8 +1,10 @@
 -- What a table means, and what it answers.
 use mathlib.Core.Path.{_≡_}
-use mathlib.Core.Bool.{Bool, cond}
+use mathlib.Core.Bool.{Bool, true, false, cond}
 use mathlib.Core.List.{List, map}
 use Prim.Native.Nat.{ℕ, zero, suc, _^_, _≤_}
+use native.Mathlib.Nat.{le-refl}
+use native.Mathlib.Omega.{arith}
 use lib.Dec.{eqb, leb, ltb}
 use lib.ListN.{length, getD}
 use Rattle.std.specs.Iters.{counting}
@@ -34,6 +36,15 @@ table-of n h g = record { variables = n; entries = tabulate (2 ^ n) g; few = h; 
 unfoldable pub variables-upto : ℕ → ℕ → ℕ
 variables-upto zero count = 0
 variables-upto (suc n) count = let fewer = variables-upto n count in cond (leb (2 ^ suc n) count) (suc n) fewer
+
+pub variables-upto-few : (n count : ℕ) → variables-upto n count ≤ n
+unfolding variables-upto
+variables-upto-few zero count = le-refl 0
+variables-upto-few (suc n) count = either (leb (2 ^ suc n) count) (variables-upto-few n count)
+  where
+    either : (b : Bool) → variables-upto n count ≤ n → cond b (suc n) (variables-upto n count) ≤ suc n
+    either true h = le-refl (suc n)
+    either false h = omega arith
 
 -- the variables of a list of so many entries
 abbrev pub variables-in : ℕ → ℕ

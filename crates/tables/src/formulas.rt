@@ -1,13 +1,13 @@
 // The formulas of the protocol, over slices of elements of any field.
 ghost use mathlib.Core.Path.{_≡_};
 ghost use mathlib.Core.List.{_++_};
-ghost use Prim.Native.Nat.{_^_, _≤_};
+ghost use Prim.Native.Nat.{_%_, _^_, _<_, _≤_};
 ghost use lib.Dec.{eqb};
 ghost use lib.ListN.{length};
 ghost use Rattle.fields.specs.Fields.{elements};
 ghost use Rattle.tables.specs.Limits.{most-variables};
 ghost use Rattle.tables.specs.Formulas.{eq, eq-pair, lt, between, extension};
-ghost use Rattle.tables.specs.Sums.{extension-sum};
+ghost use Rattle.tables.specs.Sums.{bit, corner, extension-sum};
 ghost use Rattle.tables.specs.Tables.{entry, on-points, on-table, variables-in};
 use fields::field::Field;
 use fields::refusal::Refusal;
@@ -61,6 +61,7 @@ fn line_at<F: Field>(x: F, low: F, high: F) -> F
 pub(crate) fn variables_of(count: usize) -> usize
     ensures value { λ r. ⌜ r ≡ variables-in count ⌝ }
     ensures bound { λ r. ⌜ r ≤ most-variables ⌝ }
+    ensures enough { λ r. ⌜ (0 < count → 2 ^ r ≤ count) ⌝ }
 {
     for n in (1..15).rev() {
         if count >= 1 << n {
@@ -68,6 +69,15 @@ pub(crate) fn variables_of(count: usize) -> usize
         }
     }
     0
+}
+
+// A power of two, up to the most entries of a table.
+pub(crate) fn power_of_two(n: usize) -> usize
+    requires { ⌜ n ≤ most-variables ⌝ }
+    ensures value { λ r. ⌜ r ≡ 2 ^ n ⌝ }
+    ensures bound { λ r. ⌜ r ≤ 16384 ⌝ }
+{
+    1 << n
 }
 
 // Whether a point in two parts has `n` elements.
@@ -118,13 +128,45 @@ pub(crate) fn extend_joined<F: Field>(items: &[F], head: &[F], tail: &[F]) -> F
     }
 }
 
+// eq of the last bit of a number and an element.
+fn bit_weight<F: Field>(number: usize, x: F) -> F
+    ensures { λ r. ⌜ r ≡ eq-pair (F·Field .field) (elements (F·Field .field)) (bit (F·Field .field) (number % 2)) x ⌝ }
+{
+    if number % 2 == 1 {
+        x
+    } else {
+        F::one_element().minus(x)
+    }
+}
+
+// eq of the bits of a number and a point.
+fn weight<F: Field>(number: usize, point: &[F]) -> F
+    ensures { λ r. ⌜ r ≡ eq (F·Field .field) (elements (F·Field .field)) (corner (F·Field .field) (length (now (point .entry))) number) (now (point .entry)) ⌝ }
+{
+    let mut product = F::one_element();
+    let mut rest = number;
+    for i in (0..point.len()).rev() {
+        product = bit_weight(rest, point[i]).times(product);
+        rest /= 2;
+    }
+    product
+}
+
+// eq of the bits of a number and a point in two parts.
+pub(crate) fn weight_joined<F: Field>(number: usize, head: &[F], tail: &[F]) -> F
+    requires { ⌜ length (now head ++ now tail) ≤ most-variables ⌝ }
+    ensures { λ r. ⌜ r ≡ eq (F·Field .field) (elements (F·Field .field)) (corner (F·Field .field) (length (now (head .entry) ++ now (tail .entry))) number) (now (head .entry) ++ now (tail .entry)) ⌝ }
+{
+    weight(number >> tail.len(), head).times(weight(number, tail))
+}
+
 // The extension of a list at a point in two parts.
 pub fn extension_joined<F: Field>(items: &[F], head: &[F], tail: &[F]) -> Result<F, Refusal>
     ensures value { λ r. ⌜ r ≡ on-table (F·Field .field) (now (items .entry)) (now (head .entry) ++ now (tail .entry)) (extension (F·Field .field) (elements (F·Field .field)) (length (now (head .entry) ++ now (tail .entry))) (entry (F·Field .field) (now (items .entry))) (now (head .entry) ++ now (tail .entry))) ⌝ }
     ensures sum { λ r. ⌜ r ≡ on-table (F·Field .field) (now (items .entry)) (now (head .entry) ++ now (tail .entry)) (extension-sum (F·Field .field) (length (now (head .entry) ++ now (tail .entry))) (entry (F·Field .field) (now (items .entry))) (now (head .entry) ++ now (tail .entry))) ⌝ }
 {
     let n = variables_of(items.len());
-    if items.len() != 1 << n {
+    if items.len() != power_of_two(n) {
         return Err(Refusal::OutsideLimits);
     }
     if !fits(head, tail, n) {

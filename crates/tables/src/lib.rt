@@ -1,3 +1,7 @@
+pub mod counting;
 pub mod formulas;
+pub mod one_hot;
+pub mod plain;
 pub mod size;
 pub mod sizes;
+pub mod table;

@@ -1,5 +1,5 @@
 -- Laws that follow from those of a field.
-use mathlib.Core.Path.{_≡_, refl, sym, ap, _∙_}
+use mathlib.Core.Path.{_≡_, sym, ap, _∙_}
 use Prim.Native.Nat.{ℕ, suc, _+_, _*_}
 use native.Mathlib.Nat.{add-suc, mul-suc, add-zero as ℕ·add-zero, mul-zero as ℕ·mul-zero}
 use Rattle.fields.specs.Fields.{FieldOf, less, ones}

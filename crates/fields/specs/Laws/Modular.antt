@@ -1,5 +1,5 @@
 -- Products of remainders, and inverses modulo a prime, so that a product is a multiple only if a factor is.
-use mathlib.Core.Path.{_≡_, refl, sym, ap, _∙_}
+use mathlib.Core.Path.{_≡_, sym, ap, _∙_}
 use mathlib.Core.Logic.{_≢_, _⊎_, inl, inr}
 use Prim.Native.Nat.{ℕ, zero, suc, _+_, _*_, _/_, _%_, _≤_, _<_}
 use native.Mathlib.Nat.{mul-comm, mul-assoc, mul-suc, one-mul, add-mul, mul-right-comm, mod-add-div', add-mul-mod-self-right, add-mod-mod, mul-mod-right, mod-lt, mod-eq-of-lt, mul-add-mod-self-right, div-add-mod, zero-mod, zero-mul}

@@ -1,12 +1,12 @@
 -- Pairs of elements of a field, multiplied as complex numbers: a field where two squares add up to zero only if both are zero.
-use mathlib.Core.Path.{_≡_, refl, sym, ap, ap₂, _∙_}
+use mathlib.Core.Path.{_≡_, sym, ap, ap₂, _∙_}
 use mathlib.Core.Logic.{_⊎_, inl, inr}
 use Prim.Native.Nat.{ℕ, zero, suc, _+_, _*_, _/_, _%_, _<_, _≤_}
 use native.Mathlib.Nat.{add-mul, zero-mul as ℕ·zero-mul, mul-le-mul-right, mod-add-div', add-mul-mod-self-right, add-mul-div-right, div-lt-iff-lt-mul, div-eq-of-lt, mod-eq-of-lt, mod-lt}
 use native.Mathlib.Omega.{arith}
 use Rattle.fields.specs.Fields.{FieldOf, less, ones-of, most-ones}
-use Rattle.fields.specs.Laws.Derived.{mul-zero}
-use Rattle.fields.specs.Laws.Solve.{con, _⊕_, _⊖_, _⊗_, ⊝, _≐_, solve1, solve2, solve4, solve6}
+use Rattle.fields.specs.Laws.Squares.{SquaresApart}
+use Rattle.fields.specs.Laws.Solve.{con, _⊕_, _⊖_, _⊗_, _≐_, solve2, solve4, solve6}
 
 -- C holds the pairs of elements of F, each once
 pub record Pairs (C F : Type 0) : Type 0 where
@@ -17,17 +17,15 @@ pub record Pairs (C F : Type 0) : Type 0 where
   pub im-pair : (a b : F) → im (pair a b) ≡ b
   pub same : (x y : C) → re x ≡ re y → im x ≡ im y → x ≡ y
 
--- two squares add up to zero only if both are zero: minus one is not a square
-abbrev pub SquaresApart : {F : Type 0} → FieldOf F → Type 0
-SquaresApart {F} f = (a b : F) → f .add (f .mul a a) (f .mul b b) ≡ f .zero → (a ≡ f .zero) × (b ≡ f .zero)
-
 module _ {F C : Type 0} (f : FieldOf F) (c : Pairs C F) where
   open FieldOf f using (order, meaning, element, one, add, mul, neg)
   open Pairs c using (re, im, pair, re-pair, im-pair, same)
 
+  -- by parts
   abbrev pub pair-sum : C → C → C
   pair-sum x y = pair (add (re x) (re y)) (add (im x) (im y))
 
+  -- (a, b) times (c, d) is (ac − bd, ad + bc)
   abbrev pub pair-product : C → C → C
   pair-product x y = pair (less f (mul (re x) (re y)) (mul (im x) (im y))) (add (mul (re x) (im y)) (mul (im x) (re y)))
 
@@ -40,6 +38,7 @@ module _ {F C : Type 0} (f : FieldOf F) (c : Pairs C F) where
   abbrev pub pair-one : C
   pair-one = pair one (f .zero)
 
+  -- (a, b) means a + b · order
   abbrev pub pair-meaning : C → ℕ
   pair-meaning x = meaning (re x) + meaning (im x) * order
 

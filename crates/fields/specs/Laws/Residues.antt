@@ -1,14 +1,16 @@
 -- The residues modulo p: a commutative ring for every p above one, and a field where p is a prime.
-use mathlib.Core.Path.{_≡_, refl, sym, ap, _∙_}
+use mathlib.Core.Path.{_≡_, PathP, sym, ap, _∙_}
+use mathlib.Core.HLevel.{isProp→PathP}
 use mathlib.Core.Logic.{_⊎_, inl, inr, ⊎-elim}
-use Prim.Native.Nat.{ℕ, zero, suc, _+_, _-_, _*_, _/_, _%_, _<_, _≤_}
+use Prim.Native.Nat.{ℕ, zero, suc, _+_, _-_, _*_, _%_, _<_, _≤_}
 use native.Mathlib.Nat.{mod-lt, mod-eq-of-lt, mod-self, mod-add-mod, add-mod-mod, zero-mod, add-comm, add-assoc, add-zero, mul-comm, mul-assoc, mul-one, mul-add, le-of-lt, add-sub-of-le}
+use native.Mathlib.Bridge.{le-prop}
 use native.Mathlib.Numerals.{add-one}
 use native.Mathlib.Omega.{arith}
 use Rattle.fields.specs.Fields.{FieldOf, ones-of, most-ones}
 use Rattle.fields.specs.Laws.Primes.{Prime}
 use Rattle.fields.specs.Laws.Modular.{mod-mul, mul-mod, euclid}
-use Rattle.fields.specs.Laws.Squares.{squares-apart}
+use Rattle.fields.specs.Laws.Squares.{SquaresApart, squares-apart}
 
 -- C holds the numbers below p, each once
 pub record Residues (C : Type 0) (p : ℕ) : Type 0 where
@@ -18,6 +20,10 @@ pub record Residues (C : Type 0) (p : ℕ) : Type 0 where
   pub value-make : (n : ℕ) (h : n < p) → value (make n h) ≡ n
   pub same : (a b : C) → value a ≡ value b → a ≡ b
 
+-- facts that equal numbers are below p are equal
+pub below-path : {m n p : ℕ} (e : m ≡ n) (a : m < p) (b : n < p) → PathP (λ i. e i < p) a b
+below-path {p = p} e a b = isProp→PathP (λ i. e i < p) (λ i. le-prop) a b
+
 module _ {C : Type 0} {p : ℕ} (c : Residues C p) (positive : 0 < p) where
   open Residues c using (value, below, make, value-make, same)
 
@@ -25,6 +31,7 @@ module _ {C : Type 0} {p : ℕ} (c : Residues C p) (positive : 0 < p) where
   abbrev pub residue : ℕ → C
   residue n = make (n % p) (mod-lt n positive)
 
+  -- sums, products and negatives are residues of those of the values
   abbrev pub sum : C → C → C
   sum a b = residue (value a + value b)
 
@@ -105,7 +112,7 @@ module _ {C : Type 0} {p : ℕ} (c : Residues C p) (positive : 0 < p) where
       (λ e. inr (zero-of-multiple b e))
       (euclid p prime (value a) (value b) (multiple-of-zero (value a * value b) h))
 
-  pub squares-zero : Prime p → p % 4 ≡ 3 → (a b : C) → sum (product a a) (product b b) ≡ residue 0 → (a ≡ residue 0) × (b ≡ residue 0)
+  squares-zero : Prime p → p % 4 ≡ 3 → (a b : C) → sum (product a a) (product b b) ≡ residue 0 → (a ≡ residue 0) × (b ≡ residue 0)
   squares-zero prime three a b h =
       let e : (value a * value a + value b * value b) % p ≡ 0 =
       sym (simp (value-residue, mod-add-mod, add-mod-mod)) ∙ multiple-of-zero (value (product a a) + value (product b b)) h in
@@ -141,3 +148,7 @@ residue-field {C} {p} c prime long =
       no-zero-divisors = product-zero c positive prime;
       ones-nonzero = ones-apart c positive long;
     }
+
+-- in such a field minus one is not a square if the prime is 3 modulo 4
+pub residue-squares-apart : {C : Type 0} {p : ℕ} (c : Residues C p) (prime : Prime p) (long : most-ones < p) → p % 4 ≡ 3 → SquaresApart (residue-field c prime long)
+residue-squares-apart c prime long three = squares-zero c (le-of-lt (prime .above-one)) prime three

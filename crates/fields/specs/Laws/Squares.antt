@@ -1,12 +1,17 @@
 -- Modulo a number that is 3 modulo 4, minus one is not a square; so modulo such a prime two squares add up to zero only if both are zero.
-use mathlib.Core.Path.{_≡_, refl, sym, ap, ap₂, subst, _∙_}
-use mathlib.Core.Logic.{_≢_, _⊎_, ⊎-elim}
+use mathlib.Core.Path.{_≡_, sym, ap, ap₂, subst, _∙_}
+use mathlib.Core.Logic.{_≢_, ⊎-elim}
 use Prim.Native.Nat.{ℕ, zero, suc, _+_, _-_, _*_, _/_, _%_, _≤_, _<_}
 use native.Mathlib.Nat.{mul-comm, mul-assoc, add-mul, mul-add, mul-mul-mul-comm, mul-suc, mul-add-mod-self-left, le-of-lt, le-refl, mod-eq-of-lt, mul-le-mul-left, mul-le-mul-right, add-mod-mod, mod-add-mod, add-mul-mod-self-right, mul-mod-left, mod-lt, div-add-mod, add-zero}
 use native.Mathlib.Decide.{ℕ-discrete}
 use native.Mathlib.Omega.{arith}
+use Rattle.fields.specs.Fields.{FieldOf}
 use Rattle.fields.specs.Laws.Primes.{Prime}
 use Rattle.fields.specs.Laws.Modular.{mod-mul, mul-mod, multiple-mul, inverse, euclid}
+
+-- two squares add up to zero only if both are zero: minus one is not a square
+abbrev pub SquaresApart : {F : Type 0} → FieldOf F → Type 0
+SquaresApart {F} f = (a b : F) → f .add (f .mul a a) (f .mul b b) ≡ f .zero → (a ≡ f .zero) × (b ≡ f .zero)
 
 -- a root of minus one may be reduced, and replaced by its negative
 root-mod : (a m : ℕ) → (a % m * (a % m) + 1) % m ≡ (a * a + 1) % m

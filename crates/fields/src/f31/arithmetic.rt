@@ -2,11 +2,14 @@
 ghost use mathlib.Core.Path.{_≡_};
 ghost use Prim.Native.Nat.{_<_};
 ghost use Rattle.fields.specs.F31.{f31-field};
+ghost use Rattle.std.specs.Written.{decimal};
+ghost use Rattle.std.specs.declared.option.Option.the-variants.{Some};
 use crate::f31;
 use crate::f31::F31;
 use crate::f31::MODULUS;
 use crate::field::Field;
 use crate::refusal::Refusal;
+use std::fmt;
 
 // The bits below 31.
 const LOW_BITS: u64 = 2147483647;
@@ -45,9 +48,7 @@ pub impl Field for F31 as F31Field {
 
     fn from_number(number: u64) -> Result<F31, Refusal> {
         if number < Self::ORDER {
-            Ok(F31 {
-                value: number as u32,
-            })
+            Ok(element(number as u32))
         } else {
             Err(Refusal::NotBelowOrder)
         }
@@ -76,5 +77,14 @@ pub impl Field for F31 as F31Field {
 
     fn equals(self, other: F31) -> bool {
         self.value == other.value
+    }
+}
+
+// An element shows itself as the decimal number that it means.
+pub impl fmt::Display for F31 as F31Display {
+    ghost shown = { λ x. Some (decimal (f31-field .meaning x)) };
+
+    fn fmt<W: fmt::Write>(&self, f: &mut fmt::Formatter<W>) -> fmt::Result {
+        fmt::Display::fmt(&self.to_number(), f)
     }
 }

@@ -1,11 +1,14 @@
 // Sums by parts; a product is four products of the parts.
 ghost use Rattle.fields.specs.P31.{p31-field};
+ghost use Rattle.std.specs.Written.{decimal};
+ghost use Rattle.std.specs.declared.option.Option.the-variants.{Some};
 use crate::f31;
 use crate::f31::F31;
-use crate::f31::arithmetic::F31Field;
+use crate::f31::F31Field;
 use crate::field::Field;
 use crate::p31::P31;
 use crate::refusal::Refusal;
+use std::fmt;
 
 pub impl Field for P31 as P31Field {
     const ORDER: u64 = f31::MODULUS as u64 * f31::MODULUS as u64;
@@ -76,5 +79,14 @@ pub impl Field for P31 as P31Field {
 
     fn equals(self, other: P31) -> bool {
         self.re.equals(other.re) && self.im.equals(other.im)
+    }
+}
+
+// An element shows itself as the decimal number that it means.
+pub impl fmt::Display for P31 as P31Display {
+    ghost shown = { λ x. Some (decimal (p31-field .meaning x)) };
+
+    fn fmt<W: fmt::Write>(&self, f: &mut fmt::Formatter<W>) -> fmt::Result {
+        fmt::Display::fmt(&self.to_number(), f)
     }
 }

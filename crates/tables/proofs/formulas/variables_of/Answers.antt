@@ -9,7 +9,7 @@ use Rattle.tables.proofs.formulas.variables_of.Needs as need
 pub returns-then-count-n : need.returns-then-count-n
 returns-then-count-n c =
     let h : 2 ^ (c .loop-n .n - 1) ≤ c .args .count = search needs in
-    record { value = sym (c .loop-n .inv ∙ variables-enough (c .loop-n .n - 1) (c .args .count) (omega arith) h); bound = omega arith }
+    record { value = sym (c .loop-n .inv ∙ variables-enough (c .loop-n .n - 1) (c .args .count) (omega arith) h); bound = omega arith; enough = λ k. h }
 
 pub loop-n-again : need.loop-n-again
 loop-n-again c =
@@ -20,4 +20,4 @@ pub returns : need.returns
 unfolding variables-upto
 returns c =
     let last : c .loop-n .n - 1 ≡ 0 = omega arith in
-    record { value = sym (c .loop-n .inv ∙ ap (λ (n : ℕ). variables-upto n (c .args .count)) last); bound = omega arith }
+    record { value = sym (c .loop-n .inv ∙ ap (λ (n : ℕ). variables-upto n (c .args .count)) last); bound = omega arith; enough = λ k. k }

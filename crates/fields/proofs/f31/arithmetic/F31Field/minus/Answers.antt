@@ -1,5 +1,4 @@
 use mathlib.Core.Path.{_∙_}
-use lib.Dec.{lit<}
 use Rattle.fields.specs.F31.{f31-residues}
 use Rattle.fields.specs.Laws.Residues.{residue-difference}
 use Rattle.fields.proofs.f31.arithmetic.F31Field.minus.Needs as need

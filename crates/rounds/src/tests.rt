@@ -2,7 +2,7 @@
 use crate::message::evaluate;
 use crate::polynomial::Polynomial;
 use fields::f257::F257;
-use fields::f257::arithmetic::F257Field;
+use fields::f257::F257Field;
 use fields::field::Field;
 use fields::refusal::Refusal;
 use fields::refusal::RefusalDebug;

@@ -11,7 +11,7 @@ use Rattle.rounds.specs.Polynomials.{Degree, poly-add, polynomials, value, coe
 use Rattle.rounds.specs.Roots.{Apart, Different, All-roots}
 use Rattle.rounds.proofs.Padding.{neg-zero}
 use Rattle.rounds.proofs.Degrees.{degree-less}
-use Rattle.rounds.proofs.Zeros.{value-less}
+use Rattle.rounds.proofs.Zeros.{root-of-less}
 use Rattle.rounds.proofs.Roots.{zero-by-roots}
 
 module _ {F : Type 0} (f : FieldOf F) where
@@ -72,7 +72,7 @@ module _ {F : Type 0} (f : FieldOf F) where
       gap-zero =
           let bound : length gap ≤ length (counted n) = omega (arith, degree-less f dp dq .within, counted-length n) in
           zero-by-roots f gap (counted n) (counted-different n h)
-          (roots-everywhere gap (counted n) (λ x. value-less f p q x ∙ ap (λ v. f .add v (f .neg (value f q x))) (same x) ∙ f .add-neg (value f q x))) bound
+          (roots-everywhere gap (counted n) (λ x. root-of-less f p q x (same x))) bound
 
       alike : (i : ℕ) → coefficient f p i ≡ coefficient f q i
       alike i =

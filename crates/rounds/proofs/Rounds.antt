@@ -1,8 +1,8 @@
 -- A round of a sum-check.
-use mathlib.Core.Path.{_≡_, refl, sym, ap, ap₂, fun-ext, _∙_}
+use mathlib.Core.Path.{_≡_, sym, ap, ap₂, fun-ext, _∙_}
 use mathlib.Core.List.{List, [], _∷_, _++_, map, map-append, map-id, append-assoc, append-nil}
 use mathlib.Core.Logic.{_⊎_, inl, inr}
-use Prim.Native.Nat.{ℕ, suc, _≤_}
+use Prim.Native.Nat.{ℕ, suc}
 use Rattle.fields.specs.Fields.{FieldOf, elements}
 use Rattle.tables.specs.Formulas.{cube-sum}
 use Rattle.tables.proofs.Cube.{sum-flat}
@@ -12,7 +12,7 @@ use Rattle.rounds.specs.Rounds.{Sum-test, Round-sums, Claim-passes}
 use Rattle.rounds.proofs.Values.{value-X, value-padded}
 use Rattle.rounds.proofs.Readings.{at-point, on-cube-sum, on-consts}
 use Rattle.rounds.proofs.Degrees.{degree-less, degree-cube-sum}
-use Rattle.rounds.proofs.Zeros.{element-zero-or-not, zero-or-not, value-less, same-values}
+use Rattle.rounds.proofs.Zeros.{element-zero-or-not, zero-or-not, root-of-less, same-values}
 
 -- the point of a round, evaluated at x
 point-value : {F : Type 0} (f : FieldOf F) (r : List F) (x : F) (b : List F) → map (λ p. value f p x) (round-point f r b) ≡ (r ++ (x ∷ [])) ++ b
@@ -54,18 +54,13 @@ module _ {F : Type 0} (f : FieldOf F) (s : Summand F) (agrees : Agrees f s) (r :
     degree = degree;
   }
 
-  -- a claim that is true afterwards makes the challenge a root of the gap
-  gap-vanishes : (message : List F) (x : F) → value f message x ≡ later x → value f (round-gap f s r left message) x ≡ f .zero
-  gap-vanishes message x h =
-      value-less f message p x ∙ ap (λ z. f .add z (f .neg (value f p x))) (h ∙ sym (at-challenge x)) ∙ f .add-neg (value f p x)
-
   sound : (message : List F) (claim x : F) → Sum-test f message claim
       → Root f (round-gap f s r left message) x ⊎ (value f message x ≡ later x → claim ≡ sum-after f s r (suc left))
   sound message claim x test = elim (zero-or-not f (round-gap f s r left message)) [
     | inl z ↦ inr (λ h. sym test ∙ ap₂ (f .add) (same-values f message p (f .zero) (z .1)) (same-values f message p (f .one) (z .1)) ∙ at-zero-and-one)
     | inr n ↦ elim (element-zero-or-not f (value f (round-gap f s r left message) x)) [
       | inl v ↦ inl (record { nonzero = n .1; vanishes = v .1 })
-      | inr v ↦ inr (λ h. absurd (v .1 (gap-vanishes message x h)))
+      | inr v ↦ inr (λ h. absurd (v .1 (root-of-less f message p x (h ∙ sym (at-challenge x)))))
     ]
   ]
 

@@ -3,7 +3,7 @@ use mathlib.Core.Path.{_≡_, refl, sym, ap, ap₂, subst, _∙_}
 use mathlib.Core.Bool.{Bool, true, false, _&&_}
 use mathlib.Core.List.{List, [], _∷_, map}
 use mathlib.Core.Logic.{_⊎_, inl, inr}
-use Prim.Native.Nat.{ℕ, zero, suc}
+use Prim.Native.Nat.{zero, suc}
 use lib.Dec.{T, eqb, eqb→eq, eqb-refl}
 use Rattle.fields.specs.Fields.{FieldOf, elements}
 use Rattle.fields.specs.Laws.Derived.{equal-of-less}
@@ -13,7 +13,7 @@ use Rattle.rounds.specs.Polynomials.{polynomials, value, Zero, Nonzero, is-zer
 use Rattle.rounds.proofs.Values.{value-add, value-neg}
 
 module _ {F : Type 0} (f : FieldOf F) where
-  pub zero-value : (p : List F) (x : F) → Zero f p → value f p x ≡ f .zero
+  zero-value : (p : List F) (x : F) → Zero f p → value f p x ≡ f .zero
   zero-value [] x z = refl
   zero-value (a ∷ p) x z =
       ap₂ (λ u v. f .add u (f .mul x v)) (z 0) (zero-value p x (λ i. z (suc i))) ∙ solve1 f (λ x. con 0 ⊕ x ⊗ con 0 ≐ con 0) tt x
@@ -40,8 +40,12 @@ module _ {F : Type 0} (f : FieldOf F) where
   ]
 
   -- the value of a difference of polynomials
-  pub value-less : (p q : List F) (x : F) → value f (less f (polynomials f) p q) x ≡ less f (elements f) (value f p x) (value f q x)
+  value-less : (p q : List F) (x : F) → value f (less f (polynomials f) p q) x ≡ less f (elements f) (value f p x) (value f q x)
   value-less p q x = value-add f p (map (f .neg) q) x ∙ ap (f .add (value f p x)) (value-neg f q x)
+
+  -- where two polynomials have the same value, their difference has a root
+  pub root-of-less : (p q : List F) (x : F) → value f p x ≡ value f q x → value f (less f (polynomials f) p q) x ≡ f .zero
+  root-of-less p q x e = value-less p q x ∙ ap (λ v. f .add v (f .neg (value f q x))) e ∙ f .add-neg (value f q x)
 
   -- polynomials with a zero difference have the same values
   pub same-values : (p q : List F) (x : F) → Zero f (less f (polynomials f) p q) → value f p x ≡ value f q x

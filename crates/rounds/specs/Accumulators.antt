@@ -11,7 +11,7 @@ use Rattle.fields.specs.Fields.{FieldOf}
 use Rattle.fields.specs.declared.refusal.Refusal.{Refusal}
 use Rattle.fields.specs.declared.refusal.Refusal.the-variants.{TooShort}
 use Rattle.tables.specs.Limits.{most-chunks}
-use Rattle.rounds.specs.Polynomials.{padded}
+use Rattle.rounds.specs.Polynomials.{value, padded}
 use Rattle.rounds.specs.declared.polynomial.Polynomial.{Polynomial}
 
 -- the longest message: the bound of a round is two more than the chunks at most, and a message has one coefficient more
@@ -26,6 +26,10 @@ module _ {F : Type 0} (f : FieldOf F) where
   -- p with as many coefficients as there is room for
   abbrev pub kept : List F → List F
   kept p = padded f most-coefficients p
+
+  -- the values of r are those of p and of q, multiplied
+  abbrev pub Multiplies : List F → List F → List F → Type 0
+  Multiplies r p q = (x : F) → value f r x ≡ f .mul (value f p x) (value f q x)
 
   -- an output list after it was given the first `count` coefficients of p: its first places have them; one that is too short is as before
   abbrev pub written : ℕ → List F → List F → List F

@@ -4,7 +4,7 @@ ghost use mathlib.Core.List.{[]};
 ghost use Rattle.fields.specs.Fields.{elements};
 ghost use Rattle.tables.specs.Formulas.{less, between};
 ghost use Rattle.rounds.specs.Polynomials.{poly-add, poly-mul, polynomials, line as the-line, value, coefficient as the-coefficient};
-ghost use Rattle.rounds.specs.Accumulators.{coefficients, kept, written, write-answer};
+ghost use Rattle.rounds.specs.Accumulators.{coefficients, kept, Multiplies, written, write-answer};
 use crate::message::coefficient_of;
 use crate::polynomial::Polynomial;
 use fields::field::Field;
@@ -95,7 +95,7 @@ impl<F: Field> Polynomial<F> {
     // The product with the line that is `low` at zero and `high` at one. An eighth coefficient is left out, and there is none where c6 is zero.
     pub fn times_line(self, low: F, high: F) -> Polynomial<F>
         ensures cut { λ r. ⌜ coefficients r ≡ kept (F·Field .field) (poly-mul (F·Field .field) (coefficients self) (the-line (F·Field .field) low high)) ⌝ }
-        ensures whole { λ r. ⌜ (self .c6 ≡ F·Field .field .zero → (x : F) → value (F·Field .field) (coefficients r) x ≡ F·Field .field .mul (value (F·Field .field) (coefficients self) x) (value (F·Field .field) (the-line (F·Field .field) low high) x)) ⌝ }
+        ensures whole { λ r. ⌜ (self .c6 ≡ F·Field .field .zero → Multiplies (F·Field .field) (coefficients r) (coefficients self) (the-line (F·Field .field) low high)) ⌝ }
     {
         let slope = high.minus(low);
         Polynomial {

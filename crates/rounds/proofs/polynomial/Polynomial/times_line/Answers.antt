@@ -2,7 +2,7 @@ use mathlib.Core.Path.{_≡_, sym, ap, subst, _∙_}
 use mathlib.Core.List.{List, [], _∷_}
 use native.Mathlib.Omega.{arith}
 use Rattle.fields.specs.Fields.{FieldOf}
-use Rattle.rounds.specs.Polynomials.{poly-mul, line, value, padded}
+use Rattle.rounds.specs.Polynomials.{poly-mul, line, value}
 use Rattle.rounds.specs.Accumulators.{most-coefficients, coefficients, kept}
 use Rattle.rounds.specs.declared.polynomial.Polynomial.{Polynomial}
 use Rattle.rounds.proofs.Padding.{whole-product}

@@ -10,3 +10,7 @@ pub mod Entries
 pub mod Doubling
 pub mod Hot
 pub mod Addresses
+pub mod Placed
+pub mod Cells
+pub mod Filling
+pub mod Runs

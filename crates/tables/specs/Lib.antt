@@ -5,3 +5,5 @@ pub mod Formulas
 pub mod Sums
 pub mod Tables
 pub mod Kinds
+pub mod Run
+pub mod Maker

@@ -1,5 +1,6 @@
 pub mod counting;
 pub mod formulas;
+pub mod maker;
 pub mod one_hot;
 pub mod plain;
 pub mod size;

@@ -14,3 +14,4 @@ pub mod Placed
 pub mod Cells
 pub mod Filling
 pub mod Runs
+pub mod Worked

@@ -7,3 +7,4 @@ pub mod Tables
 pub mod Kinds
 pub mod Run
 pub mod Maker
+pub mod Examples

@@ -18,7 +18,7 @@ use Rattle.tables.specs.Sizes.{sizes-or-smallest, cell-count, cycle-count}
 use Rattle.tables.specs.Kinds.{if-all, address-below, one-hot-counted, one-hot-answer}
 use Rattle.tables.specs.declared.size.Sizes.{Sizes}
 use Rattle.tables.specs.declared.one_hot.OneHot.{OneHot}
-use Rattle.tables.proofs.Tests.{made-if-holds}
+use Rattle.tables.proofs.Made.{made-if-holds}
 
 pub sizes-kept : (s : Sizes) → sizes-or-smallest (s .d) (s .c) (s .t) ≡ s
 sizes-kept s = sym (made-if-holds (within (s .d) (s .c) (s .t)) (s .ok) (λ h. record { d = s .d; c = s .c; t = s .t; ok = h }) _)

@@ -1,4 +1,4 @@
-pub mod Tests
+pub mod Made
 pub mod Points
 pub mod Variables
 pub mod Cube

@@ -7,3 +7,5 @@ pub mod plain;
 pub mod size;
 pub mod sizes;
 pub mod table;
+#[cfg(test)]
+mod tests;

@@ -1,4 +1,4 @@
-pub mod Tests
+pub mod Made
 pub mod Points
 pub mod Variables
 pub mod Cube
@@ -10,3 +10,8 @@ pub mod Entries
 pub mod Doubling
 pub mod Hot
 pub mod Addresses
+pub mod Placed
+pub mod Cells
+pub mod Filling
+pub mod Runs
+pub mod Worked

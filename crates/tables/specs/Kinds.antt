@@ -3,7 +3,7 @@ use mathlib.Core.Bool.{Bool, cond, _&&_}
 use mathlib.Core.List.{List, [], _∷_}
 use Prim.Native.Nat.{ℕ, suc, _+_, _-_, _*_, _/_, _%_, _^_}
 use denote.Ref.{RefT, now}
-use lib.Dec.{T, eqb, leb, leb→le}
+use lib.Dec.{T, eqb, leb, ltb, leb→le}
 use lib.ListN.{length, getD}
 use Rattle.std.specs.declared.result.Result.{Result}
 use Rattle.std.specs.declared.result.Result.the-variants.{Ok, Err}
@@ -42,10 +42,14 @@ abbrev pub one-hot-table : {F : Type 0} → FieldOf F → Sizes → ℕ → List
 one-hot-table f s i addresses =
     table-of (s .c + s .t) (bounds (s .d) (s .c) (s .t) (s .ok) .chunk-variables) (one-hot-entry f s i addresses)
 
--- the answer v, if all the addresses, numbered from j, are below a bound
-abbrev pub if-below : {A : Type 0} → ℕ → ℕ → List ℕ → Result A Refusal → Result A Refusal
-if-below bound j [] v = v
-if-below bound j (a ∷ rest) v = let others = if-below bound (suc j) rest v in cond (leb bound a) (Err (AddressTooLarge j)) others
+-- the answer v, if all of the items, numbered from j, have their addresses in range
+abbrev pub if-all : {X A : Type 0} → (X → Bool) → ℕ → List X → Result A Refusal → Result A Refusal
+if-all ranged j [] v = v
+if-all ranged j (x ∷ rest) v = let others = if-all ranged (suc j) rest v in cond (ranged x) others (Err (AddressTooLarge j))
+
+-- an address is below a bound
+abbrev pub address-below : ℕ → ℕ → Bool
+address-below bound address = ltb address bound
 
 -- one address for each cycle makes a table
 abbrev pub one-hot-counted : Sizes → ℕ → RefT (List ℕ) → Result OneHot Refusal
@@ -54,7 +58,7 @@ one-hot-counted s i addresses =
 
 abbrev pub one-hot-answer : Sizes → ℕ → RefT (List ℕ) → Result OneHot Refusal
 one-hot-answer s i addresses =
-    cond (leb 1 i && leb i (s .d)) (if-below (cell-count s) 0 (now addresses) (one-hot-counted s i addresses)) (Err OutsideLimits)
+    cond (leb 1 i && leb i (s .d)) (if-all (address-below (cell-count s)) 0 (now addresses) (one-hot-counted s i addresses)) (Err OutsideLimits)
 
 -- the counting table: entry i is i ones added up
 abbrev pub counting-table : {F : Type 0} → FieldOf F → Counting → Table F

@@ -5,3 +5,6 @@ pub mod Formulas
 pub mod Sums
 pub mod Tables
 pub mod Kinds
+pub mod Run
+pub mod Maker
+pub mod Examples

@@ -13,10 +13,11 @@ use crate::table::Listed;
 use fields::field::Field;
 use fields::refusal::Refusal;
 
-#[derive_where(Clone, Copy)]
 pub struct PlainList<'a, F> {
     items: &'a [F],
 }
+
+impl<'a, F> Copy for PlainList<'a, F> {}
 
 impl<'a, F: Field> PlainList<'a, F> {
     // The table with the entries `items`.

@@ -1,6 +1,6 @@
 use lib.Dec.{leb}
 use Rattle.tables.specs.Limits.{most-variables}
-use Rattle.tables.proofs.Tests.{made-if-holds}
+use Rattle.tables.proofs.Made.{made-if-holds}
 use Rattle.tables.proofs.counting.Counting.new.Needs as need
 
 pub returns : need.returns

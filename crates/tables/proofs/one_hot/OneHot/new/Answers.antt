@@ -1,7 +1,9 @@
 use mathlib.Core.Path.{_≡_, _∙_, sym}
 use Prim.Native.Nat.{_≤_, _<_}
 use native.Mathlib.Omega.{arith}
-use Rattle.tables.proofs.Addresses.{sizes-kept, below-next, no-chunk-below, no-chunk-above, address-found, wrong-count, right-count}
+use borrow.Author.Tests.{lt-ltb}
+use Rattle.tables.specs.Kinds.{address-below}
+use Rattle.tables.proofs.Addresses.{sizes-kept, all-next, no-chunk-below, no-chunk-above, address-found, wrong-count, right-count}
 use Rattle.tables.proofs.one_hot.OneHot.new.Needs as need
 use Rattle.tables.proofs.one_hot.OneHot.new.Needs.{then-chunk-lt1·by·then-chunk-lt1, then-chunk-lt1·by·else-chunk-lt1·then-chunk-chunks}
 
@@ -19,7 +21,7 @@ returns-then-chunk-lt1 c =
     }
 
 pub loop-j-again : need.loop-j-again
-loop-j-again c = λ v. c .loop-j .inv v ∙ below-next (c .cells-cells .result) (c .loop-j .j) (c .args .addresses .now) v (c .loop-j-test .taken) (c .if-address-cells .left)
+loop-j-again c = λ v. c .loop-j .inv v ∙ all-next (address-below (c .cells-cells .result)) (c .loop-j .j) (c .args .addresses .now) 0 v (c .loop-j-test .taken) (lt-ltb _ _ (c .if-address-cells .left))
 
 pub returns-then-address-cells : need.returns-then-address-cells
 returns-then-address-cells c =

@@ -1,5 +1,5 @@
 use Rattle.tables.specs.Limits.{within}
-use Rattle.tables.proofs.Tests.{made-or-other, refused-or-other}
+use Rattle.tables.proofs.Made.{made-or-other, refused-or-other}
 use Rattle.tables.proofs.size.Sizes.or_smallest.Needs as need
 
 pub returns-in-Ok : need.returns-in-Ok

@@ -50,6 +50,10 @@ module _ {F : Type 0} (f : FieldOf F) where
   abbrev pub ones : ℕ → F
   ones n = ones-of (f .zero) (f .one) (f .add) n
 
+  -- a less b
+  abbrev pub less : F → F → F
+  less a b = f .add a (f .neg b)
+
   -- the answer to a number for an element
   abbrev pub element-for : ℕ → Result F Refusal
   element-for n = cond (ltb n (f .order)) (Ok (f .element n)) (Err NotBelowOrder)

@@ -12,6 +12,10 @@ module _ {F R : Type 0} (f : FieldOf F) (o : Ops F R) where
   abbrev pub from-one : R → R
   from-one x = less (o .const (f .one)) x
 
+  -- the value at x of the line that is low at zero and high at one
+  abbrev pub between : R → R → R → R
+  between x low high = o .plus (o .times (from-one x) low) (o .times x high)
+
   -- eq of one pair: one where both are zero or both are one, and zero at the other corners
   abbrev pub eq-pair : R → R → R
   eq-pair x y = o .plus (o .times x y) (o .times (from-one x) (from-one y))

@@ -1,3 +1,10 @@
 pub mod Limits
+pub mod Bounds
 pub mod Sizes
 pub mod Formulas
+pub mod Sums
+pub mod Tables
+pub mod Kinds
+pub mod Run
+pub mod Maker
+pub mod Examples

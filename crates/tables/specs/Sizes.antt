@@ -18,6 +18,10 @@ if-holds false made other = other
 abbrev pub sizes-for : ℕ → ℕ → ℕ → Result Sizes Refusal
 sizes-for d c t = if-holds (within d c t) (λ h. Ok (record { d = d; c = c; t = t; ok = h })) (Err OutsideLimits)
 
+-- the sizes of three numbers, or the smallest if these are outside the limits
+abbrev pub sizes-or-smallest : ℕ → ℕ → ℕ → Sizes
+sizes-or-smallest d c t = if-holds (within d c t) (λ h. record { d = d; c = c; t = t; ok = h }) (record { d = 1; c = 1; t = 0; ok = tt })
+
 -- the bits of an address
 abbrev pub k : Sizes → ℕ
 k s = s .d * s .c

@@ -1,2 +1,11 @@
+pub mod counting;
+pub mod examples;
+pub mod formulas;
+pub mod maker;
+pub mod one_hot;
+pub mod plain;
 pub mod size;
 pub mod sizes;
+pub mod table;
+#[cfg(test)]
+mod tests;

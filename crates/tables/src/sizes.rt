@@ -2,7 +2,7 @@
 ghost use mathlib.Core.Path.{_≡_};
 ghost use Prim.Native.Nat.{_+_, _*_, _≤_};
 ghost use Rattle.tables.specs.Limits.{most-chunks, most-chunk-bits, most-cycle-bits, most-variables};
-ghost use Rattle.tables.specs.Sizes.{sizes-for, k, cell-count, cycle-count};
+ghost use Rattle.tables.specs.Sizes.{sizes-for, sizes-or-smallest, k, cell-count, cycle-count};
 use crate::size::Sizes;
 use fields::refusal::Refusal;
 
@@ -14,6 +14,16 @@ impl Sizes {
             return Err(Refusal::OutsideLimits);
         }
         Ok(Sizes { d, c, t })
+    }
+
+    // The sizes of three numbers, or the smallest if these are outside the limits.
+    pub(crate) fn or_smallest(d: usize, c: usize, t: usize) -> Sizes
+        ensures { λ r. ⌜ r ≡ sizes-or-smallest d c t ⌝ }
+    {
+        if let Ok(sizes) = Sizes::new(d, c, t) {
+            return sizes;
+        }
+        Sizes { d: 1, c: 1, t: 0 }
     }
 
     // d, the chunks of an address.
@@ -46,6 +56,14 @@ impl Sizes {
         ensures bound { λ r. ⌜ (1 ≤ r) × (r + self .t ≤ most-variables) ⌝ }
     {
         self.d * self.c
+    }
+
+    // The variables of a chunk table.
+    pub fn chunk_variables(self) -> usize
+        ensures value { λ r. ⌜ r ≡ self .c + self .t ⌝ }
+        ensures bound { λ r. ⌜ r ≤ most-variables ⌝ }
+    {
+        self.c + self.t
     }
 
     // K, the number of cells.

@@ -1,5 +1,5 @@
 use mathlib.Core.Path.{refl}
-use Rattle.tables.proofs.Bounds.{bounds}
+use Rattle.tables.specs.Bounds.{bounds}
 use Rattle.tables.proofs.size.Sizes.address_bits.Needs as need
 
 pub returns : need.returns

@@ -1,5 +1,5 @@
 use Rattle.tables.specs.Limits.{within}
-use Rattle.tables.proofs.Tests.{made-if-holds}
+use Rattle.tables.proofs.Made.{made-if-holds}
 use Rattle.tables.proofs.size.Sizes.new.Needs as need
 
 pub returns : need.returns

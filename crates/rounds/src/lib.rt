@@ -1,0 +1,5 @@
+pub mod message;
+pub mod polynomial;
+#[cfg(test)]
+mod tests;
+pub mod theory;

@@ -1,0 +1,60 @@
+use mathlib.Core.Path.{_≡_, _∙_, refl, sym, ap}
+use mathlib.Core.Bool.{true}
+use mathlib.Core.List.{_++_}
+use Prim.Native.Nat.{ℕ, _-_, _^_, _≤_, _<_}
+use native.Mathlib.Omega.{arith}
+use lib.Dec.{eqb}
+use lib.ListN.{length, take, List·getD-eq-default}
+use lib.Seq.{length-take-le, getD-take}
+use borrow.Author.Needs.{needs}
+use borrow.Author.Tests.{true-eqb}
+use Rattle.fields.specs.Fields.{elements}
+use Rattle.tables.specs.Limits.{most-variables}
+use Rattle.tables.specs.Formulas.{extension}
+use Rattle.tables.specs.Tables.{variables-upto, variables-in, variables-upto-few, entry}
+use Rattle.tables.proofs.Extension.{ext-cong, ext-none}
+use Rattle.tables.proofs.Entries.{opens}
+use Rattle.tables.proofs.plain.PlainCommitted.open.Needs as need
+
+pub returns-then-items-eq0 : need.returns-then-items-eq0
+unfolding variables-upto
+returns-then-items-eq0 g c =
+    let f = g .F·Field .field in
+    let es = c .args .self .now .items .now in
+    let n = variables-in (length es) in
+    let p = c .args .head .now ++ c .args .tail .now in
+    let none : 0 ≡ n = ap variables-in (sym (c .if-items-eq0 .taken)) in
+    opens f n (variables-upto-few most-variables (length es)) (entry f es) p _ (c .if-not-fits .ensures tt ∙ ap (eqb (length p)) (c .variables-of-n .ensures .value))
+    (c .zero-element .ensures
+    ∙ sym (List·getD-eq-default es (f .zero) (omega arith))
+    ∙ sym (ext-none f (entry f es) p)
+    ∙ ap (λ (m : ℕ). extension f (elements f) m (entry f es) p) none)
+
+pub part-extend-joined-end : need.part-extend-joined-end
+part-extend-joined-end g c =
+    let some : 0 < length (c .args .self .now .items .now) = omega arith in
+    let enough = c .variables-of-n .ensures .enough some in
+    search needs
+
+pub extend-joined-requires : need.extend-joined-requires
+extend-joined-requires g c κs =
+    let es = c .args .self .now .items .now in
+    let p = c .args .head .now ++ c .args .tail .now in
+    let some : 0 < length es = omega arith in
+    let enough = c .variables-of-n .ensures .enough some in
+    let size : c .power-of-two .result - 0 ≡ 2 ^ c .variables-of-n .result = omega (arith, c .power-of-two .ensures .value) in
+    length-take-le (c .power-of-two .result - 0) es (omega arith) ∙ size ∙ ap (λ (m : ℕ). 2 ^ m) (sym (true-eqb (length p) _ (c .if-not-fits .ensures tt)))
+
+pub returns : need.returns
+returns g c =
+    let f = g .F·Field .field in
+    let es = c .args .self .now .items .now in
+    let n = variables-in (length es) in
+    let p = c .args .head .now ++ c .args .tail .now in
+    let m = c .power-of-two .result - 0 in
+    let fit = c .if-not-fits .ensures tt ∙ ap (eqb (length p)) (c .variables-of-n .ensures .value) in
+    let size : m ≡ 2 ^ n = omega (arith, c .power-of-two .ensures .value, ap (λ (k : ℕ). 2 ^ k) (c .variables-of-n .ensures .value)) in
+    opens f n (variables-upto-few most-variables (length es)) (entry f es) p _ fit
+    (c .extend-joined .ensures
+    ∙ ap (λ (k : ℕ). extension f (elements f) k (entry f (take m es)) p) (true-eqb (length p) n fit)
+    ∙ ext-cong f n (entry f (take m es)) (entry f es) p (λ i h. getD-take m es i (f .zero) (omega arith)))

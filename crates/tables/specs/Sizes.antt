@@ -1,5 +1,4 @@
 -- Sizes, and what is counted by them.
-use mathlib.Core.Path.{_≡_}
 use mathlib.Core.Bool.{Bool, true, false}
 use Prim.Native.Nat.{ℕ, _*_, _^_}
 use lib.Dec.{T}

@@ -15,7 +15,7 @@ use Rattle.std.proofs.shelf.Tests.{cases-lt}
 use mathlib.Core.Logic.{⊎-elim}
 use Rattle.tables.specs.Limits.{most-chunks}
 use Rattle.tables.specs.Sizes.{k}
-use Rattle.tables.proofs.Bounds.{bounds}
+use Rattle.tables.specs.Bounds.{bounds}
 use Rattle.stages.specs.declared.plan.Kind.{Kind}
 use Rattle.stages.specs.declared.plan.Kind.the-variants.{Shout, Twist}
 use Rattle.stages.specs.declared.plan.ChunkTable.{ChunkTable}

@@ -1,7 +1,7 @@
 -- Sums over the corners of a cube, over the elements of a field.
 use mathlib.Core.Path.{_≡_, refl, sym, ap, ap₂, _∙_}
 use mathlib.Core.List.{List, [], _∷_}
-use Prim.Native.Nat.{ℕ, zero, suc, _+_, _*_, _/_, _%_, _^_, _<_}
+use Prim.Native.Nat.{ℕ, zero, suc, _+_, _*_, _%_, _^_, _<_}
 use native.Mathlib.Nat.{two-pow-succ, pow-succ', mul-assoc, suc-mul, zero-mul}
 use native.Mathlib.Omega.{arith}
 use lib.Arith.{digits-div}
@@ -9,6 +9,7 @@ use Rattle.fields.specs.Fields.{FieldOf, elements}
 use Rattle.fields.specs.Laws.Derived.{zero-add}
 use Rattle.tables.specs.Formulas.{cube-sum}
 use Rattle.tables.specs.Sums.{sum-below, bit, corner}
+use Rattle.tables.proofs.Sums.{below-add}
 
 -- b is corner number i of the cube of n variables
 pub data Corner {F : Type 0} (f : FieldOf F) : ℕ → ℕ → List F → Type 0 where
@@ -59,19 +60,11 @@ module _ {F : Type 0} (f : FieldOf F) where
       ap₂ (f .add) (sum-scale n x (λ i b. g i (f .zero ∷ b))) (sum-scale n x (λ i b. g (2 ^ n + i) (f .one ∷ b)))
       ∙ sym (f .mul-add x (sum n (λ i b. g i (f .zero ∷ b))) (sum n (λ i b. g (2 ^ n + i) (f .one ∷ b))))
 
-  pub below-add : (n m : ℕ) (g : ℕ → F) → sum-below f (n + m) g ≡ f .add (sum-below f n g) (sum-below f m (λ i. g (n + i)))
-  below-add n zero g = ap (λ (z : ℕ). sum-below f z g) (omega arith) ∙ sym (f .add-zero (sum-below f n g))
-  below-add n (suc m) g =
-      let e : n + suc m ≡ suc (n + m) = omega arith in
-      ap (λ (z : ℕ). sum-below f z g) e
-      ∙ ap (λ z. f .add z (g (n + m))) (below-add n m g)
-      ∙ f .add-assoc (sum-below f n g) (sum-below f m (λ i. g (n + i))) (g (n + m))
-
   by-numbers : (n : ℕ) (g : ℕ → F) → sum n (λ i b. g i) ≡ sum-below f (2 ^ n) g
   by-numbers zero g = sym (zero-add f (g 0))
   by-numbers (suc n) g =
       ap₂ (f .add) (by-numbers n g) (by-numbers n (λ i. g (2 ^ n + i)))
-      ∙ sym (below-add (2 ^ n) (2 ^ n) g)
+      ∙ sym (below-add f (2 ^ n) (2 ^ n) g)
       ∙ ap (λ (z : ℕ). sum-below f z g) (sym (two-pow-succ n))
 
   -- over the numbers of the corners

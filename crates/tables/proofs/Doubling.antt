@@ -1,7 +1,7 @@
 -- The extension of the counting table: a point read as a number in base two.
-use mathlib.Core.Path.{_≡_, refl, sym, ap, ap₂, _∙_}
+use mathlib.Core.Path.{_≡_, sym, ap, ap₂, _∙_}
 use mathlib.Core.List.{List, [], _∷_}
-use Prim.Native.Nat.{ℕ, _+_, _^_}
+use Prim.Native.Nat.{_+_, _^_}
 use native.Mathlib.Nat.{two-pow-succ}
 use lib.ListN.{length}
 use Rattle.fields.specs.Fields.{FieldOf, elements, ones}

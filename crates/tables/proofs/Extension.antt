@@ -1,12 +1,12 @@
 -- The multilinear extension over the elements of a field: by its first variable, and as a flat sum.
-use mathlib.Core.Path.{_≡_, refl, sym, ap, ap₂, _∙_}
-use mathlib.Core.List.{List, [], _∷_, map, map-id}
+use mathlib.Core.Path.{_≡_, ap, ap₂, _∙_}
+use mathlib.Core.List.{List, _∷_, map, map-id}
 use Prim.Native.Nat.{ℕ, zero, suc, _+_, _^_, _<_}
 use Rattle.fields.specs.Fields.{FieldOf, elements}
 use Rattle.fields.specs.Laws.Solve.{con, _⊕_, _⊖_, _⊗_, _≐_, solve3}
 use Rattle.tables.specs.Formulas.{eq, from-one, between, cube-sum, extension}
-use Rattle.tables.specs.Sums.{sum-below, corner, extension-sum}
-use Rattle.tables.proofs.Cube.{Corner, corner-below, sum-cong, sum-scale, sum-flat}
+use Rattle.tables.specs.Sums.{extension-sum}
+use Rattle.tables.proofs.Cube.{corner-below, sum-cong, sum-scale, sum-flat}
 
 module _ {F : Type 0} (f : FieldOf F) where
   abbrev ext : ℕ → (ℕ → F) → List F → F

@@ -1,10 +1,10 @@
 pub mod Made
 pub mod Points
 pub mod Variables
+pub mod Sums
 pub mod Cube
 pub mod Extension
 pub mod Halves
-pub mod Opened
 pub mod Weights
 pub mod Entries
 pub mod Doubling

@@ -1,5 +1,5 @@
 -- A value that is made where a test passes.
-use mathlib.Core.Path.{_≡_, refl, sym}
+use mathlib.Core.Path.{_≡_, refl}
 use mathlib.Core.Bool.{Bool, true, false}
 use lib.Dec.{T}
 use Rattle.std.specs.declared.result.Result.the-variants.{Ok, Err}

@@ -2,7 +2,7 @@
 use mathlib.Core.Path.{_≡_, refl, sym, ap, ap₂, transport, _∙_}
 use mathlib.Core.Bool.{Bool, true, false, cond, _&&_}
 use mathlib.Core.List.{List, [], _∷_}
-use Prim.Native.Nat.{ℕ, zero, suc, _+_, _*_, _/_, _%_, _^_, _<_, _≤_}
+use Prim.Native.Nat.{ℕ, zero, suc, _+_, _*_, _^_, _<_}
 use native.Mathlib.Omega.{arith}
 use native.Mathlib.Decide.{decLt}
 use lib.Arith.{digits-lt, digits-div, digits-mod}
@@ -18,7 +18,7 @@ use Rattle.fields.specs.declared.refusal.Refusal.the-variants.{AddressTooLarge,
 use Rattle.tables.specs.Sizes.{k, cell-count, cycle-count}
 use Rattle.tables.specs.Tables.{tabulate, entry}
 use Rattle.tables.specs.Kinds.{if-all, chunk, one-hot-entry, one-hot-table}
-use Rattle.tables.specs.Run.{cell, Addressed, Twist-run}
+use Rattle.tables.specs.Run.{cell, Addressed}
 use Rattle.tables.specs.Maker.{placed, has-room, addressed-below, operations-answer, Room, Fitting, operation, read-at, write-at, value-at, held-at, rv-at, increment-at, inc-at, one-hots, Run-of}
 use Rattle.tables.specs.declared.size.Sizes.{Sizes}
 use Rattle.tables.specs.declared.maker.Operation.{Operation}

@@ -1,11 +1,10 @@
 -- eq of the bits of a number and a point.
-use mathlib.Core.Path.{_≡_, refl, sym, ap, ap₂, _∙_}
+use mathlib.Core.Path.{_≡_, sym, ap, ap₂, _∙_}
 use mathlib.Core.List.{List, [], _∷_, _++_}
-use Prim.Native.Nat.{ℕ, zero, suc, _+_, _-_, _*_, _/_, _%_, _^_, _<_, _≤_}
+use Prim.Native.Nat.{ℕ, suc, _+_, _-_, _/_, _%_, _^_, _<_, _≤_}
 use native.Mathlib.Omega.{arith}
-use native.Mathlib.Nat.{pow-suc, div-one}
 use lib.ListN.{length, drop, getD, length-append}
-use lib.Pow.{shr-shr, pow-add}
+use lib.Pow.{shr-shr}
 use Rattle.fields.specs.Fields.{FieldOf, elements}
 use Rattle.fields.specs.Laws.Derived.{one-mul}
 use Rattle.fields.specs.Laws.Solve.{con, _⊕_, _⊖_, _⊗_, _≐_, solve1}

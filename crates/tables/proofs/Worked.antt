@@ -1,8 +1,8 @@
 -- The worked examples, by computing.
-use mathlib.Core.Path.{_≡_, refl, ap, ap₂}
-use mathlib.Core.List.{List, [], _∷_, map}
+use mathlib.Core.Path.{refl, ap, ap₂}
+use mathlib.Core.List.{_∷_}
 use Rattle.std.specs.declared.result.Result.the-variants.{Ok}
-use Rattle.fields.specs.F31.{f31-field, f31-same}
+use Rattle.fields.specs.F31.{f31-same}
 use Rattle.fields.specs.F257.{f257-same}
 use Rattle.fields.proofs.Examples.{field-examples}
 use Rattle.tables.specs.Tables.{variables-upto}

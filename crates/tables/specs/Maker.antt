@@ -4,7 +4,7 @@ use mathlib.Core.Bool.{Bool, cond, _&&_}
 use mathlib.Core.List.{List, _++_}
 use Prim.Native.Nat.{ℕ, suc, _*_, _/_, _%_, _<_, _≤_}
 use lib.Dec.{eqb, leb, ltb}
-use lib.ListN.{length, getD, take, drop}
+use lib.ListN.{length, getD, drop}
 use Rattle.std.specs.declared.result.Result.{Result}
 use Rattle.std.specs.declared.result.Result.the-variants.{Ok, Err}
 use Rattle.fields.specs.Fields.{FieldOf, less}
@@ -64,6 +64,7 @@ module _ {F : Type 0} (f : FieldOf F) (operations : List (Operation F)) where
   abbrev pub operation : ℕ → Operation F
   operation j = getD operations j (record { read = 0; write = 0; value = f .zero })
 
+  -- the cell that cycle j reads, the one that it writes, and the element that it writes there
   abbrev pub read-at : ℕ → ℕ
   read-at j = operation j .read
 
@@ -77,6 +78,7 @@ module _ {F : Type 0} (f : FieldOf F) (operations : List (Operation F)) where
   abbrev pub held-at : ℕ → ℕ → F
   held-at a j = cell f write-at value-at a j
 
+  -- what cycle j reads
   abbrev pub rv-at : ℕ → F
   rv-at j = held-at (read-at j) j
 

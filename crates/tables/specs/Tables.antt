@@ -15,7 +15,7 @@ use Rattle.fields.specs.Fields.{FieldOf, elements}
 use Rattle.fields.specs.declared.refusal.Refusal.{Refusal}
 use Rattle.fields.specs.declared.refusal.Refusal.the-variants.{OutsideLimits, OutsideTable}
 use Rattle.tables.specs.Limits.{most-variables}
-use Rattle.tables.specs.Formulas.{eq, lt, extension}
+use Rattle.tables.specs.Formulas.{extension}
 
 -- the list of g 0, g 1, .. up to, and without, g n
 abbrev pub tabulate : {A : Type 0} → ℕ → (ℕ → A) → List A

@@ -1,7 +1,6 @@
 // The run maker: from operations to the lists of a right run.
 ghost use mathlib.Core.Path.{_≡_};
-ghost use mathlib.Core.Bool.{true};
-ghost use Prim.Native.Nat.{ℕ, _+_, _*_, _<_, _≤_};
+ghost use Prim.Native.Nat.{_+_, _*_, _<_, _≤_};
 ghost use lib.ListN.{length, getD, set, take};
 ghost use Rattle.std.specs.declared.result.Result.the-variants.{Ok};
 ghost use Rattle.fields.specs.Fields.{less};

@@ -3,7 +3,7 @@ ghost use mathlib.Core.Path.{_≡_};
 ghost use Prim.Native.Nat.{_^_, _<_};
 ghost use lib.ListN.{getD};
 ghost use Rattle.tables.specs.Sizes.{sizes-or-smallest};
-ghost use Rattle.tables.specs.Kinds.{chunk-of, one-hot-table, one-hot-answer};
+ghost use Rattle.tables.specs.Kinds.{chunk-of, one-hot-meaning, one-hot-answer};
 use crate::formulas::fits;
 use crate::formulas::power_of_two;
 use crate::formulas::weight_joined;
@@ -23,7 +23,7 @@ pub struct OneHot<'a> {
 }
 
 impl<'a> OneHot<'a> {
-    // The table of chunk `chunk`, from 1 to d, of the addresses.
+    // The table of chunk `chunk`, from 1 to d, of the addresses. It means the one-hot table over the sizes given.
     pub fn new(sizes: Sizes, chunk: usize, addresses: &'a [usize]) -> Result<OneHot<'a>, Refusal>
         ensures answer { λ r. ⌜ r ≡ one-hot-answer sizes chunk (addresses .entry) ⌝ }
         ensures sizes { λ _. ⌜ sizes-or-smallest (sizes .d) (sizes .c) (sizes .t) ≡ sizes ⌝ }
@@ -73,7 +73,7 @@ impl<'a> OneHot<'a> {
 }
 
 pub impl<'a, F: Field> Committed<F> for OneHot<'a> as OneHotCommitted {
-    ghost table = { λ m. one-hot-table (F·Field .field) (sizes-or-smallest (m .d) (m .c) (m .t)) (m .chunk) (m .addresses .now) };
+    ghost table = { λ m. one-hot-meaning (F·Field .field) m };
 
     fn vars(&self) -> usize {
         Sizes::or_smallest(self.d, self.c, self.t).chunk_variables()

@@ -1,6 +1,6 @@
 // Making sizes, and reading them.
 ghost use mathlib.Core.Path.{_≡_};
-ghost use Prim.Native.Nat.{_+_, _*_, _≤_};
+ghost use Prim.Native.Nat.{_+_, _≤_};
 ghost use Rattle.tables.specs.Limits.{most-chunks, most-chunk-bits, most-cycle-bits, most-variables};
 ghost use Rattle.tables.specs.Sizes.{sizes-for, sizes-or-smallest, k, cell-count, cycle-count};
 use crate::size::Sizes;

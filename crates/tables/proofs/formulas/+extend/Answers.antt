@@ -1,5 +1,4 @@
 use mathlib.Core.Path.{_∙_, ap, ap₂}
-use mathlib.Core.List.{List}
 use Prim.Native.Nat.{_^_}
 use native.Mathlib.Omega.{arith}
 use borrow.Author.Needs.{needs}

@@ -8,7 +8,7 @@ use borrow.Author.Needs.{needs}
 use Rattle.std.specs.declared.result.Result.the-variants.{Ok}
 use Rattle.tables.specs.Tables.{entry, variables-in}
 use Rattle.tables.proofs.Extension.{ext-flat}
-use Rattle.tables.proofs.Opened.{on-fitting-table}
+use Rattle.tables.proofs.Entries.{on-fitting-table}
 use Rattle.tables.proofs.formulas.extension_joined.Needs as need
 
 pub returns : need.returns

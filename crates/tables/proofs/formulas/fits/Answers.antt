@@ -1,6 +1,5 @@
-use mathlib.Core.Path.{_∙_, sym}
 use native.Mathlib.Omega.{arith}
-use lib.ListN.{length, length-append}
+use lib.ListN.{length-append}
 use Rattle.std.proofs.shelf.Ways.{tells}
 use Rattle.tables.proofs.formulas.fits.Needs as need
 

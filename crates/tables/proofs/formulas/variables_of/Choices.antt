@@ -1,5 +1,5 @@
 use mathlib.Core.Path.{_≡_}
-use Prim.Native.Nat.{_-_, _≤_}
+use Prim.Native.Nat.{_-_}
 use Rattle.tables.specs.Tables.{variables-in, variables-upto}
 use Rattle.tables.proofs.formulas.variables_of.Given as given
 

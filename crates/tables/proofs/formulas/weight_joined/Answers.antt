@@ -1,6 +1,5 @@
-use Prim.Native.Nat.{_≤_}
 use native.Mathlib.Omega.{arith}
-use lib.ListN.{length, length-append}
+use lib.ListN.{length-append}
 use Rattle.tables.proofs.Weights.{weight-joined}
 use Rattle.tables.proofs.formulas.weight_joined.Needs as need
 

@@ -1,7 +1,6 @@
 use mathlib.Core.Path.{_≡_, _∙_, ap}
-use Prim.Native.Nat.{ℕ, _<_}
+use Prim.Native.Nat.{ℕ}
 use native.Mathlib.Omega.{arith}
-use lib.ListN.{length, set}
 use Rattle.tables.specs.Maker.{placed}
 use Rattle.tables.proofs.Placed.{placed-more}
 use Rattle.tables.proofs.maker.clear.Needs as need

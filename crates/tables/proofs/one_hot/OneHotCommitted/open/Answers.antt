@@ -1,6 +1,6 @@
 use mathlib.Core.Path.{_≡_, _∙_, sym, ap, subst}
 use mathlib.Core.List.{_++_}
-use Prim.Native.Nat.{ℕ, _+_, _*_, _^_, _≤_}
+use Prim.Native.Nat.{ℕ, _+_, _*_, _^_}
 use native.Mathlib.Numerals.{add-one}
 use native.Mathlib.Nat.{mod-lt}
 use native.Mathlib.Omega.{arith}
@@ -14,7 +14,6 @@ use Rattle.tables.specs.Formulas.{eq}
 use Rattle.tables.specs.Sums.{sum-below, corner}
 use Rattle.tables.specs.declared.size.Sizes.{Sizes}
 use Rattle.tables.specs.Bounds.{bounds}
-use Rattle.tables.specs.Sizes.{cycle-count}
 use Rattle.tables.specs.Tables.{opened}
 use Rattle.tables.specs.Kinds.{chunk-of, one-hot-entry, one-hot-table}
 use Rattle.tables.proofs.Entries.{opens}

@@ -2,7 +2,6 @@ use mathlib.Core.Path.{_≡_, _∙_, sym, ap, subst}
 use mathlib.Core.Bool.{cond}
 use Prim.Native.Nat.{ℕ, _+_, _/_, _%_, _^_, _<_}
 use native.Mathlib.Omega.{arith}
-use borrow.Author.Needs.{needs}
 use borrow.Author.Tests.{eq-eqb, ne-eqb}
 use Rattle.std.specs.declared.result.Result.the-variants.{Ok}
 use Rattle.tables.specs.declared.size.Sizes.{Sizes}

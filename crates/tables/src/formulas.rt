@@ -71,13 +71,13 @@ pub(crate) fn variables_of(count: usize) -> usize
     0
 }
 
-// A power of two, up to the most entries of a table.
+// A power of two, up to the most entries of a table; 0 past that.
 pub(crate) fn power_of_two(n: usize) -> usize
-    requires { ⌜ n ≤ most-variables ⌝ }
-    ensures value { λ r. ⌜ r ≡ 2 ^ n ⌝ }
+    ensures value { λ r. ⌜ (n ≤ most-variables → r ≡ 2 ^ n) ⌝ }
+    ensures past { λ r. ⌜ (most-variables < n → r ≡ 0) ⌝ }
     ensures bound { λ r. ⌜ r ≤ 16384 ⌝ }
 {
-    1 << n
+    if n > 14 { 0 } else { 1 << n }
 }
 
 // Whether a point in two parts has `n` elements.
@@ -112,7 +112,7 @@ fn extend<F: Field>(items: &[F], point: &[F]) -> F
 }
 
 // The extension at a point in two parts of a list that fits it.
-pub(crate) fn extend_joined<F: Field>(items: &[F], head: &[F], tail: &[F]) -> F
+fn extend_joined<F: Field>(items: &[F], head: &[F], tail: &[F]) -> F
     requires { ⌜ length (now items) ≡ 2 ^ length (now head ++ now tail) ⌝ }
     ensures { λ r. ⌜ r ≡ extension (F·Field .field) (elements (F·Field .field)) (length (now (head .entry) ++ now (tail .entry))) (entry (F·Field .field) (now (items .entry))) (now (head .entry) ++ now (tail .entry)) ⌝ }
 {
@@ -140,7 +140,7 @@ fn bit_weight<F: Field>(number: usize, x: F) -> F
 }
 
 // eq of the bits of a number and a point.
-fn weight<F: Field>(number: usize, point: &[F]) -> F
+pub(crate) fn weight<F: Field>(number: usize, point: &[F]) -> F
     ensures { λ r. ⌜ r ≡ eq (F·Field .field) (elements (F·Field .field)) (corner (F·Field .field) (length (now (point .entry))) number) (now (point .entry)) ⌝ }
 {
     let mut product = F::one_element();
@@ -150,14 +150,6 @@ fn weight<F: Field>(number: usize, point: &[F]) -> F
         rest /= 2;
     }
     product
-}
-
-// eq of the bits of a number and a point in two parts.
-pub(crate) fn weight_joined<F: Field>(number: usize, head: &[F], tail: &[F]) -> F
-    requires { ⌜ length (now head ++ now tail) ≤ most-variables ⌝ }
-    ensures { λ r. ⌜ r ≡ eq (F·Field .field) (elements (F·Field .field)) (corner (F·Field .field) (length (now (head .entry) ++ now (tail .entry))) number) (now (head .entry) ++ now (tail .entry)) ⌝ }
-{
-    weight(number >> tail.len(), head).times(weight(number, tail))
 }
 
 // The extension of a list at a point in two parts.

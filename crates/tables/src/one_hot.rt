@@ -1,12 +1,17 @@
 // The one-hot table of a chunk, over a list of addresses, one for each cycle.
 ghost use mathlib.Core.Path.{_≡_};
-ghost use Prim.Native.Nat.{_^_, _<_};
-ghost use lib.ListN.{getD};
+ghost use mathlib.Core.List.{_++_};
+ghost use Prim.Native.Nat.{_^_, _<_, _≤_};
+ghost use lib.ListN.{length, getD};
+ghost use Rattle.fields.specs.Fields.{elements};
+ghost use Rattle.tables.specs.Limits.{most-variables};
+ghost use Rattle.tables.specs.Formulas.{eq};
+ghost use Rattle.tables.specs.Sums.{corner};
 ghost use Rattle.tables.specs.Sizes.{sizes-or-smallest};
 ghost use Rattle.tables.specs.Kinds.{chunk-of, one-hot-meaning, one-hot-answer};
 use crate::formulas::fits;
 use crate::formulas::power_of_two;
-use crate::formulas::weight_joined;
+use crate::formulas::weight;
 use crate::size::Sizes;
 use crate::table::Committed;
 use crate::table::Listed;
@@ -70,6 +75,14 @@ impl<'a> OneHot<'a> {
         let below = sizes.chunks().saturating_sub(self.chunk) * bits;
         (self.address_at(cycle) >> below) % power_of_two(bits)
     }
+}
+
+// eq of the bits of a number and a point in two parts.
+fn weight_joined<F: Field>(number: usize, head: &[F], tail: &[F]) -> F
+    requires { ⌜ length (now head ++ now tail) ≤ most-variables ⌝ }
+    ensures { λ r. ⌜ r ≡ eq (F·Field .field) (elements (F·Field .field)) (corner (F·Field .field) (length (now (head .entry) ++ now (tail .entry))) number) (now (head .entry) ++ now (tail .entry)) ⌝ }
+{
+    weight(number >> tail.len(), head).times(weight(number, tail))
 }
 
 pub impl<'a, F: Field> Committed<F> for OneHot<'a> as OneHotCommitted {

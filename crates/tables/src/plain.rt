@@ -4,7 +4,7 @@ ghost use mathlib.Core.Bool.{true};
 ghost use lib.ListN.{length};
 ghost use Rattle.tables.specs.Tables.{is-table};
 ghost use Rattle.tables.specs.Kinds.{plain-table, plain-answer};
-use crate::formulas::extend_joined;
+use crate::formulas::extension_joined;
 use crate::formulas::fits;
 use crate::formulas::power_of_two;
 use crate::formulas::variables_of;
@@ -50,7 +50,7 @@ pub impl<'a, F: Field> Committed<F> for PlainList<'a, F> as PlainCommitted {
         if items.len() == 0 {
             return Ok(F::zero_element());
         }
-        Ok(extend_joined(&items[0..power_of_two(n)], head, tail))
+        extension_joined(&items[0..power_of_two(n)], head, tail)
     }
 }
 

@@ -4,5 +4,7 @@ use lib.Pow.{pow-mono}
 use Rattle.tables.specs.Limits.{most-variables}
 use Rattle.tables.proofs.formulas.power_of_two.Needs as need
 
-pub returns : need.returns
-returns c = let most : 2 ^ c .args .n ≤ 2 ^ most-variables = pow-mono (c .pre) in record { value = omega arith; bound = omega arith }
+pub returns-else-n-gt14 : need.returns-else-n-gt14
+returns-else-n-gt14 c =
+    let most : 2 ^ c .args .n ≤ 2 ^ most-variables = pow-mono (c .if-n-gt14 .left) in
+    record { value = λ h. omega arith; past = λ h. absurd (omega arith); bound = omega arith }

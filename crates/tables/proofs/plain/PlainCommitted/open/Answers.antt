@@ -12,7 +12,8 @@ use Rattle.tables.specs.Limits.{most-variables}
 use Rattle.tables.specs.Formulas.{extension}
 use Rattle.tables.specs.Tables.{variables-upto, variables-in, variables-upto-few, entry}
 use Rattle.tables.proofs.Extension.{ext-cong, ext-none}
-use Rattle.tables.proofs.Entries.{opens}
+use Rattle.tables.proofs.Entries.{opens, on-fitting-table}
+use Rattle.tables.proofs.Variables.{variables-of-power}
 use Rattle.tables.proofs.plain.PlainCommitted.open.Needs as need
 
 pub returns-then-items-eq0 : need.returns-then-items-eq0
@@ -29,20 +30,12 @@ returns-then-items-eq0 g c =
     ∙ sym (ext-none f (entry f es) p)
     ∙ ap (λ (m : ℕ). extension f (elements f) m (entry f es) p) none)
 
-pub part-extend-joined-end : need.part-extend-joined-end
-part-extend-joined-end g c =
+pub part-extension-joined-end : need.part-extension-joined-end
+part-extension-joined-end g c =
     let some : 0 < length (c .args .self .now .items .now) = omega arith in
     let enough = c .variables-of-n .ensures .enough some in
+    let size = c .power-of-two .ensures .value (c .variables-of-n .ensures .bound) in
     search needs
-
-pub extend-joined-requires : need.extend-joined-requires
-extend-joined-requires g c κs =
-    let es = c .args .self .now .items .now in
-    let p = c .args .head .now ++ c .args .tail .now in
-    let some : 0 < length es = omega arith in
-    let enough = c .variables-of-n .ensures .enough some in
-    let size : c .power-of-two .result - 0 ≡ 2 ^ c .variables-of-n .result = omega (arith, c .power-of-two .ensures .value) in
-    length-take-le (c .power-of-two .result - 0) es (omega arith) ∙ size ∙ ap (λ (m : ℕ). 2 ^ m) (sym (true-eqb (length p) _ (c .if-not-fits .ensures tt)))
 
 pub returns : need.returns
 returns g c =
@@ -51,9 +44,15 @@ returns g c =
     let n = variables-in (length es) in
     let p = c .args .head .now ++ c .args .tail .now in
     let m = c .power-of-two .result - 0 in
+    let few = variables-upto-few most-variables (length es) in
     let fit = c .if-not-fits .ensures tt ∙ ap (eqb (length p)) (c .variables-of-n .ensures .value) in
-    let size : m ≡ 2 ^ n = omega (arith, c .power-of-two .ensures .value, ap (λ (k : ℕ). 2 ^ k) (c .variables-of-n .ensures .value)) in
-    opens f n (variables-upto-few most-variables (length es)) (entry f es) p _ fit
-    (c .extend-joined .ensures
-    ∙ ap (λ (k : ℕ). extension f (elements f) k (entry f (take m es)) p) (true-eqb (length p) n fit)
+    let enough = c .variables-of-n .ensures .enough (omega arith) in
+    let power = c .power-of-two .ensures .value (c .variables-of-n .ensures .bound) in
+    let size : m ≡ 2 ^ n = omega (arith, power, ap (λ (k : ℕ). 2 ^ k) (c .variables-of-n .ensures .value)) in
+    let long : length (take m es) ≡ 2 ^ n = length-take-le m es (omega (arith, power)) ∙ size in
+    let own : variables-in (length (take m es)) ≡ n = ap variables-in long ∙ variables-of-power most-variables n few in
+    c .extension-joined .ensures .value
+    ∙ sym (on-fitting-table f (take m es) p _ (long ∙ ap (λ (k : ℕ). 2 ^ k) (sym own)) (ap (eqb (length p)) own ∙ sym fit))
+    ∙ opens f n few (entry f es) p _ fit
+    (ap (λ (k : ℕ). extension f (elements f) k (entry f (take m es)) p) (true-eqb (length p) n fit)
     ∙ ext-cong f n (entry f (take m es)) (entry f es) p (λ i h. getD-take m es i (f .zero) (omega arith)))

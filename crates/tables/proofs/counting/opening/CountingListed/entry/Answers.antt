@@ -15,6 +15,7 @@ pub returns : need.returns
 returns g c =
     let f = g .F·Field .field in
     let m = c .args .self .now in
-    let below : c .args .index < 2 ^ m .variables = omega arith in
+    let few = leb→le (m .variables) most-variables (m .ok) in
+    let below : c .args .index < 2 ^ m .variables = omega (arith, c .power-of-two .ensures .value few) in
     let all : c .loop .counter ≡ c .args .index = omega arith in
-    gives f (m .variables) (leb→le (m .variables) most-variables (m .ok)) (ones f) (c .args .index) _ below (c .loop .inv ∙ ap (ones f) all)
+    gives f (m .variables) few (ones f) (c .args .index) _ below (c .loop .inv ∙ ap (ones f) all)

@@ -1,7 +1,7 @@
 use native.Mathlib.Omega.{arith}
 use lib.ListN.{length-append}
 use Rattle.tables.proofs.Weights.{weight-joined}
-use Rattle.tables.proofs.formulas.weight_joined.Needs as need
+use Rattle.tables.proofs.one_hot.weight_joined.Needs as need
 
 pub shr-number : need.shr-number
 shr-number g c = omega (arith, length-append (c .args .head .now) (c .args .tail .now))

@@ -40,7 +40,7 @@ module _ {F : Type 0} (f : FieldOf F) where
   ]
 
   -- the value of a difference of polynomials
-  value-less : (p q : List F) (x : F) → value f (less f (polynomials f) p q) x ≡ less f (elements f) (value f p x) (value f q x)
+  pub value-less : (p q : List F) (x : F) → value f (less f (polynomials f) p q) x ≡ less f (elements f) (value f p x) (value f q x)
   value-less p q x = value-add f p (map (f .neg) q) x ∙ ap (f .add (value f p x)) (value-neg f q x)
 
   -- where two polynomials have the same value, their difference has a root

@@ -2,3 +2,11 @@ pub mod Lists
 pub mod Stages
 pub mod Bounds
 pub mod Places
+pub mod Fits
+pub mod Halving
+pub mod Agreement
+pub mod RoundBounds
+pub mod Degrees
+pub mod Linear
+pub mod Factors
+pub mod RoundTerms

@@ -1,2 +1,7 @@
 pub mod Plan
 pub mod Places
+pub mod Memory
+pub mod Models
+pub mod Formulas
+pub mod Messages
+pub mod Terms

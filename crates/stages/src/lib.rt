@@ -1,1 +1,4 @@
+pub mod increments;
+pub mod memory;
 pub mod plan;
+pub mod theory;

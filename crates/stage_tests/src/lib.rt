@@ -1,11 +1,21 @@
-// Tests of the plan of a job, its line and its text.
+// Tests of the plan of a job, its line and its text, and of what its memory holds.
 #[cfg(test)]
 mod tests {
+    use fields::f31::F31;
+    use fields::f31::F31Field;
+    use fields::field::Field;
+    use fields::refusal::Refusal;
     use fields::refusal::RefusalDebug;
+    use stages::increments::value_at;
+    use stages::memory::Tables;
+    use stages::memory::tables_fit;
     use stages::plan::Kind;
     use stages::plan::Plan;
     use std::alloc::Global;
     use std::test::*;
+    use tables::plain::PlainCommitted;
+    use tables::plain::PlainList;
+    use tables::plain::PlainListed;
     use tables::size::Sizes;
     use texts::page::answer;
 
@@ -215,5 +225,74 @@ mod tests {
         };
         check_eq(twist.challenge_count(), 336)?;
         check_eq(twist.stage_count(), 20)
+    }
+
+    fn element(number: u64) -> F31 {
+        match F31::from_number(number) {
+            Ok(element) => element,
+            Err(_) => F31::zero_element(),
+        }
+    }
+
+    // Two cycles write 9 and then 4 to cell 1: before cycle j the cells hold 9·a·j at an address a, also between the corners.
+    #[test]
+    fn what_the_memory_holds() -> Result<(), Fail> {
+        let sizes = Sizes::new(1, 1, 1)?;
+        let entries = [element(0), element(0), element(9), element(2147483642)];
+        let inc = PlainList::new(&entries)?;
+        let point = [element(0), element(1), element(2), element(3)];
+        check_eq(
+            value_at(sizes, &inc, &point[1..2], &point[1..2])?.to_number(),
+            9,
+        )?;
+        check_eq(
+            value_at(sizes, &inc, &point[1..2], &point[0..1])?.to_number(),
+            0,
+        )?;
+        check_eq(
+            value_at(sizes, &inc, &point[2..3], &point[3..4])?.to_number(),
+            54,
+        )?;
+        check(is_refused(value_at(sizes, &inc, &point[0..2], &point[3..4]), 7))?;
+        check(is_refused(
+            value_at(Sizes::new(1, 1, 0)?, &inc, &point[1..2], &point[0..0]),
+            4,
+        ))
+    }
+
+    fn is_refused(answer: Result<F31, Refusal>, number: u8) -> bool {
+        match answer {
+            Ok(_) => false,
+            Err(refusal) => refusal.number() == number,
+        }
+    }
+
+    #[test]
+    fn tables_that_fit() -> Result<(), Fail> {
+        let entries = [element(1), element(0), element(0), element(1)];
+        let two = PlainList::new(&entries)?;
+        let one = PlainList::new(&entries[0..2])?;
+        let chunks = [two, two];
+        let shout = Tables::Shout {
+            ra: &chunks[0..1],
+            val: &one,
+            rv: &one,
+        };
+        check(tables_fit::<F31, _, _, _>(Sizes::new(1, 1, 1)?, &shout))?;
+        check(!tables_fit::<F31, _, _, _>(Sizes::new(1, 1, 0)?, &shout))?;
+        let many = Tables::Shout {
+            ra: &chunks,
+            val: &one,
+            rv: &one,
+        };
+        check(!tables_fit::<F31, _, _, _>(Sizes::new(1, 1, 1)?, &many))?;
+        let twist = Tables::Twist {
+            ra: &chunks[0..1],
+            wa: &chunks[0..1],
+            inc: &two,
+            rv: &one,
+            wv: &one,
+        };
+        check(tables_fit::<F31, _, _, _>(Sizes::new(1, 1, 1)?, &twist))
     }
 }

@@ -1,4 +1,5 @@
 pub mod counting;
+pub mod counts;
 pub mod examples;
 pub mod formulas;
 pub mod maker;

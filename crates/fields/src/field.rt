@@ -1,6 +1,9 @@
 // A field, as the tables and both ends of the protocol use it.
 ghost use mathlib.Core.Path.{_≡_};
+ghost use Prim.Native.Nat.{_^_, _≤_};
 ghost use lib.Dec.{eqb};
+ghost use prog.Memory.{size};
+ghost use denote.Param.{layout};
 ghost use Rattle.fields.specs.Fields.{FieldOf, element-for};
 use crate::refusal::Refusal;
 
@@ -13,6 +16,9 @@ pub trait Field: Copy {
 
     // The operations on elements, what elements mean, and the laws.
     ghost field: { FieldOf Self };
+
+    // An element takes few bytes, so that the coordinates of a point fit in memory.
+    law small: { size (layout Self·row) ≤ 2 ^ 32 };
 
     // The three constants, with their promises: a constant carries none in generic code.
     fn field_order() -> u64

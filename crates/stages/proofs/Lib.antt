@@ -2,11 +2,17 @@ pub mod Lists
 pub mod Stages
 pub mod Bounds
 pub mod Places
+pub mod Planned
 pub mod Fits
+pub mod Coordinates
 pub mod Halving
+pub mod Kept
 pub mod Agreement
 pub mod RoundBounds
 pub mod Degrees
 pub mod Linear
 pub mod Factors
 pub mod RoundTerms
+pub mod Due
+pub mod EndValues
+pub mod Worked

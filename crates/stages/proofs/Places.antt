@@ -1,5 +1,5 @@
 -- The place of a count: the walk over the stages finds the first whose challenges go past it.
-use mathlib.Core.Path.{_≡_, refl, sym, ap, _∙_}
+use mathlib.Core.Path.{_≡_, refl, sym, ap, ap₂, subst, _∙_}
 use mathlib.Core.Bool.{Bool, true, false}
 use mathlib.Core.Logic.{⊎-elim}
 use Prim.Native.Nat.{ℕ, zero, suc, _+_, _-_, _<_, _≤_}
@@ -7,12 +7,13 @@ use native.Mathlib.Omega.{arith}
 use lib.Dec.{ltb}
 use lib.ListN.{length, take, getD}
 use lib.Seq.{take-take, take-all}
+use Rattle.std.specs.declared.option.Option.{Option}
 use Rattle.std.specs.declared.option.Option.the-variants.{None, Some}
 use Rattle.std.specs.shelf.Lists.{sumBy}
 use Rattle.std.specs.shelf.Maps.{nth}
 use Rattle.std.proofs.shelf.Maps.{nth-getD, nth-past}
 use Rattle.std.proofs.shelf.Sums.{sumBy-more, sumBy-take-le}
-use Rattle.std.proofs.shelf.Tests.{lt-ltb, le-ltb, cond-true, cond-false, cases-lt}
+use Rattle.std.proofs.shelf.Tests.{lt-ltb, le-ltb, ltb-true, ltb-false, cond-true, cond-false, cases-lt, cases-bool}
 use Rattle.stages.specs.declared.plan.Stage.{Stage}
 use Rattle.stages.specs.declared.plan.Stage.the-variants.{Read}
 use Rattle.stages.specs.declared.plan.Plan.{Plan}
@@ -32,6 +33,24 @@ first-none test (suc n) below =
     cond-false (test 0) 0 (suc (first (λ i. test (suc i)) n)) (below 0 (omega arith))
     ∙ ap suc (first-none (λ i. test (suc i)) n (λ j k. below (suc j) (omega arith)))
 
+first-passes : (test : ℕ → Bool) (n : ℕ) → first test n < n → test (first test n) ≡ true
+first-passes test zero h = absurd (omega arith)
+first-passes test (suc n) h =
+    let rest = first (λ i. test (suc i)) n in
+    ⊎-elim (λ yes. ap test (cond-true (test 0) 0 (suc rest) yes) ∙ yes)
+    (λ no. let e = cond-false (test 0) 0 (suc rest) no in ap test e ∙ first-passes (λ i. test (suc i)) n (omega (arith, e)))
+    (cases-bool (test 0))
+
+first-not-before : (test : ℕ → Bool) (n i : ℕ) → i < first test n → test i ≡ false
+first-not-before test zero i h = absurd (omega arith)
+first-not-before test (suc n) zero h =
+    ⊎-elim (λ yes. absurd (omega (arith, cond-true (test 0) 0 (suc (first (λ i. test (suc i)) n)) yes))) (λ no. no) (cases-bool (test 0))
+first-not-before test (suc n) (suc i) h =
+    let rest = first (λ i. test (suc i)) n in
+    ⊎-elim (λ yes. absurd (omega (arith, cond-true (test 0) 0 (suc rest) yes)))
+    (λ no. first-not-before (λ i. test (suc i)) n i (omega (arith, cond-false (test 0) 0 (suc rest) no)))
+    (cases-bool (test 0))
+
 module _ (p : Plan) where
   -- a stage that there is has a place in the plan
   pub stage-below : (i : ℕ) (g : Stage) → nth (stages p) i ≡ Some g → i < length (stages p)
@@ -50,7 +69,7 @@ module _ (p : Plan) where
       ∙ sumBy-more (challenges p) (stages p) i Read h
       ∙ ap (λ g. challenges-before p i + challenges p g) stage
 
-  before-mono : (i j : ℕ) → i ≤ j → challenges-before p i ≤ challenges-before p j
+  pub before-mono : (i j : ℕ) → i ≤ j → challenges-before p i ≤ challenges-before p j
   before-mono i j h =
       let same : sumBy (challenges p) (take i (take j (stages p))) ≡ challenges-before p i = ap (sumBy (challenges p)) (take-take i j (stages p) h) in
       omega (arith, sumBy-take-le (challenges p) (take j (stages p)) i)
@@ -122,3 +141,42 @@ module _ (p : Plan) where
 
     pub walk-past : stage-at p n ≡ None → place p count ≡ (0, 0)
     walk-past is = place-past count (n - 1) (sym (stage-index n some) ∙ is) (omega arith)
+
+-- the count falls among the challenges of stage i, from 0
+pub record Among (p : Plan) (count i : ℕ) (g : Stage) : Type 0 where
+  pub is : nth (stages p) i ≡ Some g
+  pub low : challenges-before p i ≤ count
+  pub high : count < challenges-before p i + challenges p g
+
+module _ (p : Plan) (count : ℕ) where
+  before-first : (i : ℕ) → i ≡ first-past p count → challenges-before p i ≤ count
+  before-first zero e = omega arith
+  before-first (suc i) e =
+      ltb-false count (challenges-before p (suc i)) (first-not-before (λ j. ltb count (challenges-before p (suc j))) (length (stages p)) i (omega arith))
+
+  among-first : (g : Stage) → nth (stages p) (first-past p count) ≡ Some g → Among p count (first-past p count) g
+  among-first g is =
+      let passes = first-passes (λ j. ltb count (challenges-before p (suc j))) (length (stages p)) (stage-below p (first-past p count) g is) in
+      record {
+        is = is;
+        low = before-first (first-past p count) refl;
+        high = omega (arith, ltb-true count (challenges-before p (suc (first-past p count))) passes, before-suc p (first-past p count) g is);
+      }
+
+  -- of a place with a stage, the count falls among the challenges of that stage, and the round is the stage's own
+  pub at-place : (at : ℕ × ℕ) (g : Stage) → place p count ≡ at → stage-at p (at .0) ≡ Some g
+      → Among p count (at .0 - 1) g × (at .1 ≡ round-of p count g (count - challenges-before p (at .0 - 1)))
+  at-place at g placed stage = by (nth (stages p) (first-past p count)) refl placed
+    where
+      by : (o : Option Stage) → nth (stages p) (first-past p count) ≡ o → place-in p count (first-past p count) o ≡ at
+          → Among p count (at .0 - 1) g × (at .1 ≡ round-of p count g (count - challenges-before p (at .0 - 1)))
+      by None is placed =
+          let never : None ≡ Some g = ap (λ x. stage-at p (x .0)) placed ∙ stage in let z : _≡_ {A = ℕ} 0 1 = cc in absurd (omega arith)
+      by (Some h) is placed =
+          let here : Some h ≡ Some g = sym is ∙ ap (λ x. stage-at p (x .0)) placed ∙ stage in
+          let same : h ≡ g = cc in
+          let number : suc (first-past p count) ≡ at .0 = ap (λ x. x .0) placed in
+          let index : first-past p count ≡ at .0 - 1 = omega arith in (
+            subst (λ i. Among p count i g) index (among-first g (is ∙ here)),
+            sym (ap (λ x. x .1) placed) ∙ ap₂ (λ s i. round-of p count s (count - challenges-before p i)) same index,
+          )

@@ -13,9 +13,9 @@ use Rattle.std.specs.shelf.Maps.{nth}
 use Rattle.std.proofs.shelf.Sums.{sumBy-append}
 use Rattle.std.proofs.shelf.Tests.{cases-lt}
 use mathlib.Core.Logic.{⊎-elim}
-use Rattle.tables.specs.Limits.{most-chunks}
+use Rattle.tables.specs.Limits.{most-chunks, most-variables}
 use Rattle.tables.specs.Sizes.{k}
-use Rattle.tables.specs.Bounds.{bounds}
+use Rattle.tables.specs.Bounds.{Bounds, bounds}
 use Rattle.stages.specs.declared.plan.Kind.{Kind}
 use Rattle.stages.specs.declared.plan.Kind.the-variants.{Shout, Twist}
 use Rattle.stages.specs.declared.plan.ChunkTable.{ChunkTable}
@@ -73,8 +73,11 @@ length-most Shout d = omega (arith, length-shout d)
 length-most Twist d = omega (arith, length-twist d)
 
 module _ (p : Plan) where
+  limits : Bounds (p .sizes .d) (p .sizes .c) (p .sizes .t)
+  limits = bounds (p .sizes .d) (p .sizes .c) (p .sizes .t) (p .sizes .ok)
+
   pub few-stages : length (stages p) ≤ 4 * most-chunks + 4
-  few-stages = omega (arith, length-most (p .kind) (p .sizes .d), bounds (p .sizes .d) (p .sizes .c) (p .sizes .t) (p .sizes .ok) .chunks)
+  few-stages = omega (arith, length-most (p .kind) (p .sizes .d), limits .chunks)
 
   pub rounds-bits : (m : ChunkTable) → rounds p (Bits m) ≡ p .sizes .c + p .sizes .t
   rounds-bits m = length-replicate (p .sizes .c + p .sizes .t) 3
@@ -94,6 +97,14 @@ module _ (p : Plan) where
 
   pub rounds-value : rounds p Value ≡ p .sizes .t
   rounds-value = length-replicate (p .sizes .t) 2
+
+  -- no stage has more rounds than a table may have variables
+  pub rounds-within : (g : Stage) → rounds p g ≤ most-variables
+  rounds-within (Bits m) = omega (arith, rounds-bits m, limits .chunk-variables)
+  rounds-within (Row m) = omega (arith, rounds-row m, limits .chunk-variables)
+  rounds-within Read = omega (arith, rounds-read, limits .variables)
+  rounds-within Write = omega (arith, rounds-write, limits .variables)
+  rounds-within Value = omega (arith, rounds-value, limits .variables)
 
   abbrev x : ℕ
   x = p .sizes .c + p .sizes .t

@@ -1,7 +1,7 @@
 -- The summand of each stage: one formula, read over elements or over polynomials.
-use mathlib.Core.List.{List, _++_, map}
+use mathlib.Core.List.{List, [], _∷_, _++_, map}
 use Prim.Native.Nat.{ℕ, zero, suc, _+_, _*_}
-use lib.ListN.{take, drop}
+use lib.ListN.{getD, take, drop}
 use Rattle.fields.specs.Fields.{FieldOf, Ops}
 use Rattle.tables.specs.Formulas.{less, eq, lt, cube-sum, extension}
 use Rattle.tables.specs.Sizes.{k}
@@ -78,6 +78,9 @@ module _ {F R : Type 0} (f : FieldOf F) (p : Plan) (m : Memory F) (o : Ops F R) 
   -- what the memory holds at a point of an address and a cycle
   abbrev pub held-at : List R → R
   held-at point = held (p .kind) (address-of f s o point) (cycle-of f s o point)
+
+  abbrev pub core : Stage → List R → R
+  core g point = let h = held-at point in core-with h g point
 
   abbrev pub summand : Stage → List F → List F → List R → R
   summand g draws before point = let h = held-at point in summand-with h g draws before point

@@ -5,3 +5,5 @@ pub mod Models
 pub mod Formulas
 pub mod Messages
 pub mod Terms
+pub mod Due
+pub mod Examples

@@ -18,7 +18,7 @@ use Rattle.stages.specs.declared.plan.Stage.{Stage}
 use Rattle.stages.specs.declared.plan.Plan.{Plan}
 use Rattle.stages.specs.Plan.{bounds, rounds}
 use Rattle.stages.specs.Memory.{Memory}
-use Rattle.stages.specs.Formulas.{summand, val-value}
+use Rattle.stages.specs.Formulas.{summand, held-at, val-value}
 
 module _ {F : Type 0} (f : FieldOf F) (p : Plan) (m : Memory F) where
   -- a stage's summand, with its draws and the round challenges of the stage before
@@ -28,6 +28,10 @@ module _ {F : Type 0} (f : FieldOf F) (p : Plan) (m : Memory F) where
   -- the message of the round after the challenges r of a stage: the round polynomial, filled up to bound + 1 coefficients
   abbrev pub message : Stage → List F → List F → List F → List F
   message g draws before r = published f (stage-summand g draws before) (getD (bounds p g) (length r) 0) r (rounds p g - suc (length r))
+
+  -- the end value of a read or write: what the memory holds at the stage's round challenges
+  abbrev pub end-value : List F → F
+  end-value r = held-at f p m (elements f) r
 
 -- the answer of Val at an address and a cycle: INC has k + t variables, and the point k elements for the address and t for the cycle
 abbrev pub value-answer : {F : Type 0} → FieldOf F → Sizes → Table F → List F → List F → Result F Refusal

@@ -1,4 +1,4 @@
--- Whether the tables of a job fit its sizes.
+-- What the tables of a job mean, and whether they fit its sizes.
 use mathlib.Core.Bool.{Bool, true, _&&_}
 use mathlib.Core.List.{List, [], _∷_, map}
 use Prim.Native.Nat.{ℕ, _+_}
@@ -10,12 +10,18 @@ use Rattle.tables.specs.Tables.{Table}
 use Rattle.tables.specs.declared.size.Sizes.{Sizes}
 use Rattle.stages.specs.declared.plan.Kind.{Kind}
 use Rattle.stages.specs.declared.plan.Kind.the-variants as kind
+use Rattle.stages.specs.declared.plan.Plan.{Plan}
 use Rattle.stages.specs.declared.memory.Tables.{Tables}
 use Rattle.stages.specs.declared.memory.Tables.the-variants.{Shout, Twist}
+use Rattle.stages.specs.Memory.{Memory}
 
 abbrev pub kind-of : {A M V : Type 0} → Tables A M V → Kind
 kind-of (Shout ra val rv) = kind.Shout
 kind-of (Twist ra wa inc rv wv) = kind.Twist
+
+-- the plan of a job by its sizes and tables
+abbrev pub plan-of : {A M V : Type 0} → Sizes → Tables A M V → Plan
+plan-of s tables = record { kind = kind-of tables; sizes = s }
 
 module _ {F : Type 0} where
   -- each of the tables has n variables
@@ -34,3 +40,20 @@ module _ {F A M V : Type 0} (ea : A → Table F) (em : M → Table F) (ev : V �
   tables-fit s (Twist ra wa inc rv wv) =
       chunks-fit s (map ea (now ra)) && chunks-fit s (map ea (now wa)) && eqb (em (now inc) .variables) (k s + s .t)
       && eqb (ev (now rv) .variables) (s .t) && eqb (ev (now wv) .variables) (s .t)
+
+  -- the entries of chunk tables
+  abbrev pub chunk-entries : List A → List (List F)
+  chunk-entries ms = map (λ m. ea m .entries) ms
+
+  abbrev pub memory : Tables A M V → Memory F
+  memory (Shout ra val rv) =
+      record { ra = chunk-entries (now ra); wa = []; inc = []; rv = ev (now rv) .entries; wv = []; val = em (now val) .entries }
+  memory (Twist ra wa inc rv wv) =
+      record {
+        ra = chunk-entries (now ra);
+        wa = chunk-entries (now wa);
+        inc = em (now inc) .entries;
+        rv = ev (now rv) .entries;
+        wv = ev (now wv) .entries;
+        val = [];
+      }

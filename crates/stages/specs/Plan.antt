@@ -1,6 +1,6 @@
 -- The plan of a job: its stages in order, and the draws and degree bounds of each.
 use mathlib.Core.List.{List, [], _∷_, _++_}
-use Prim.Native.Nat.{ℕ, zero, suc, _+_, _*_}
+use Prim.Native.Nat.{ℕ, zero, suc, _+_, _*_, _≤_}
 use lib.ListN.{length, take, replicate}
 use Rattle.std.specs.declared.option.Option.{Option}
 use Rattle.std.specs.declared.option.Option.the-variants.{None}
@@ -28,6 +28,22 @@ memory-stages = Read ∷ Value ∷ Write ∷ Value ∷ []
 abbrev pub stages-of : Kind → ℕ → List Stage
 stages-of Shout d = chunk-stages Ra d ++ (Read ∷ [])
 stages-of Twist d = chunk-stages Ra d ++ (chunk-stages Wa d ++ memory-stages)
+
+-- a chunk table of a job of d chunks
+abbrev pub Chunk-of : Kind → ℕ → ChunkTable → Type 0
+Chunk-of x d (Ra i) = (1 ≤ i) × (i ≤ d)
+Chunk-of Shout d (Wa i) = ⊥
+Chunk-of Twist d (Wa i) = (1 ≤ i) × (i ≤ d)
+
+-- a stage that a plan for d chunks may have
+abbrev pub Planned : Kind → ℕ → Stage → Type 0
+Planned x d (Bits w) = Chunk-of x d w
+Planned x d (Row w) = Chunk-of x d w
+Planned x d Read = Unit {0}
+Planned Shout d Write = ⊥
+Planned Twist d Write = Unit {0}
+Planned Shout d Value = ⊥
+Planned Twist d Value = Unit {0}
 
 -- the factors of the read summand that have a cycle variable: eq, the chunk tables and, with writes, the value
 abbrev pub read-degree : Kind → ℕ → ℕ

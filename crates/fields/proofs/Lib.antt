@@ -2,3 +2,4 @@ mod Reduction
 mod Tables
 mod Powers
 pub mod Examples
+pub mod P31Squares

@@ -5,13 +5,8 @@ use Rattle.fields.specs.Fields.{FieldOf}
 use Rattle.fields.specs.F31.{f31_field, f31_residues, f31_prime}
 use Rattle.fields.specs.Laws.Residues.{residue_squares_apart}
 use Rattle.fields.specs.Laws.Pairs.{Pairs, pair_field}
-use Rattle.fields.specs.Laws.Squares.{SquaresApart}
 use Rattle.fields.specs.declared.f31.F31.{F31}
 use Rattle.fields.specs.declared.p31.P31.{P31}
-
--- minus one is not a square in F31, since 2147483647 is 3 modulo 4
-pub f31_squares_apart : SquaresApart f31_field
-f31_squares_apart = residue_squares_apart f31_residues f31_prime (lit< tt) refl
 
 -- an element is the pair of its parts
 abbrev pub p31_pairs : Pairs P31 F31
@@ -24,6 +19,7 @@ p31_pairs = record {
   same = λ x y e g i. record { re = e i; im = g i };
 }
 
--- (a, b) means a + b · 2147483647; sums by parts, product (ac − bd, ad + bc)
+-- (a, b) means a + b · 2147483647; sums by parts, product (ac − bd, ad + bc).
+-- It is a field since minus one is not a square in F31: 2147483647 is 3 modulo 4.
 abbrev pub p31_field : FieldOf P31
-p31_field = pair_field f31_field f31_squares_apart p31_pairs
+p31_field = pair_field f31_field (residue_squares_apart f31_residues f31_prime (lit< tt) refl) p31_pairs

@@ -1,3 +1,5 @@
+#![tactic(auto)]
+
 pub mod f257;
 pub mod f31;
 pub mod field;

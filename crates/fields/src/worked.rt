@@ -1,7 +1,10 @@
 // Facts of the fields that are worked out once, as theorems.
-ghost use Rattle.fields.specs.Examples.{FieldExamples};
+ghost use Rattle.std.specs.Prelude.{◌≡◌};
+ghost use Rattle.fields.specs.P31.{p31_field};
+ghost use Rattle.fields.specs.Examples.{FieldExamples, p31};
 
 // The worked examples hold of the definitions.
 pub fn field_examples_hold()
-    ensures { FieldExamples }
+    ensures examples { FieldExamples }
+    ensures p31_product { p31_field.mul (p31 1 2) (p31 3 4) ≡ p31 2147483642 10 }
 {}

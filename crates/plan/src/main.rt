@@ -1,3 +1,5 @@
+#![tactic(auto)]
+
 // Reads the line of a job from standard input and prints its plan.
 use std::io;
 use std::io::{BufRead, BufReader};

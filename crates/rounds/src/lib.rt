@@ -1,3 +1,5 @@
+#![tactic(auto)]
+
 pub mod message;
 pub mod polynomial;
 #[cfg(test)]

@@ -1,6 +1,7 @@
 // A polynomial of up to seven coefficients, c0 the constant: what the proving end adds up and multiplies by lines.
 pub mod arithmetic;
 
+#[derive(Clone, Copy)]
 pub struct Polynomial<F> {
     c0: F,
     c1: F,
@@ -10,5 +11,3 @@ pub struct Polynomial<F> {
     c5: F,
     c6: F,
 }
-
-impl<F: Copy> Copy for Polynomial<F> {}

@@ -1,3 +1,5 @@
+#![tactic(auto)]
+
 // Tests of the plan of a job, its line and its text, and of what its memory holds.
 #[cfg(test)]
 mod tests {

@@ -3,7 +3,6 @@ use Rattle.std.specs.Prelude.{◌≡◌, ℕ, List, [], ◌∷◌, map, Some, No
 use Rattle.fields.specs.F31.{f31_field}
 use Rattle.fields.specs.declared.f31.F31.{F31}
 use Rattle.tables.specs.Examples.{TableExamples}
-use Rattle.tables.specs.declared.size.Sizes.{Sizes}
 use Rattle.stages.specs.declared.plan.Kind.TheVariants.{Shout}
 use Rattle.stages.specs.declared.plan.Plan.{Plan}
 use Rattle.stages.specs.Memory.{Memory}

@@ -1,5 +1,5 @@
 -- The summand of each stage: one formula, read over elements or over polynomials.
-use Rattle.std.specs.Prelude.{ℕ, zero, suc, ◌+◌, ◌*◌, List, [], ◌∷◌, ◌++◌, map, get_or, take, drop}
+use Rattle.std.specs.Prelude.{ℕ, zero, suc, ◌+◌, ◌*◌, List, ◌++◌, map, take, drop}
 use Rattle.fields.specs.Fields.{FieldOf, Ops}
 use Rattle.tables.specs.Formulas.{less, eq, lt, cube_sum, extension}
 use Rattle.tables.specs.Sizes.{k}

@@ -13,12 +13,11 @@ use tables::size::Sizes;
 use tables::table::{Committed, Listed};
 
 // Increments of a cell added up: as they are, and each times LT of its cycle and a point.
+#[derive(Clone, Copy)]
 struct CellSums<F> {
     all: F,
     before: F,
 }
-
-impl<F: Copy> Copy for CellSums<F> {}
 
 // The increment at an index.
 fn increment_at<F: Field, M: Listed<F>>(inc: &M, index: usize) -> F

@@ -1,3 +1,5 @@
+#![tactic(auto)]
+
 pub mod examples;
 pub mod increments;
 pub mod memory;

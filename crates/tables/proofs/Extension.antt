@@ -1,5 +1,5 @@
 -- The multilinear extension over the elements of a field: by its first variable, and as a flat sum.
-use Rattle.std.proofs.Common.{◌≡◌, ℕ, zero, suc, ◌+◌, ◌^◌, ◌<◌, List, ◌∷◌, map, ap, ◌∙◌, ap₂, map-id}
+use Rattle.std.proofs.Common.{◌≡◌, ℕ, suc, ◌+◌, ◌^◌, ◌<◌, List, ◌∷◌, map, ap, ◌∙◌, ap₂, map-id}
 use Rattle.fields.specs.Fields.{FieldOf, elements}
 use Rattle.fields.specs.Laws.Solve.{con, ◌⊕◌, ◌⊖◌, ◌⊗◌, ◌≐◌, solve3}
 use Rattle.tables.specs.Formulas.{eq, from_one, between, cube_sum, extension}

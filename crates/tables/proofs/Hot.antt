@@ -1,5 +1,5 @@
 -- The extension of a one-hot table: the weights of the entries that are one, added up.
-use Rattle.std.proofs.Common.{◌≡◌, ℕ, zero, ◌+◌, ◌*◌, ◌/◌, ◌%◌, ◌^◌, ◌<◌, Bool, true, false, cond, eqb, List, ap, ◌∙◌, ap₂, pow-add}
+use Rattle.std.proofs.Common.{◌≡◌, ℕ, ◌+◌, ◌*◌, ◌/◌, ◌%◌, ◌^◌, ◌<◌, Bool, true, false, cond, eqb, List, ap, ◌∙◌, ap₂, pow-add}
 use lib.Arith.{digits_div, digits_mod}
 use Rattle.fields.specs.Fields.{FieldOf, elements}
 use Rattle.fields.specs.Laws.Derived.{one-mul, zero-mul}

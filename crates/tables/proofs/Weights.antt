@@ -1,5 +1,5 @@
 -- eq of the bits of a number and a point.
-use Rattle.std.proofs.Common.{◌≡◌, ℕ, suc, ◌+◌, ◌-◌, ◌/◌, ◌%◌, ◌^◌, ◌<◌, ◌≤◌, List, [], ◌∷◌, ◌++◌, length, get_or, drop, sym, ap, ◌∙◌, ap₂, arith, length-append, shr_shr}
+use Rattle.std.proofs.Common.{◌≡◌, ℕ, suc, ◌-◌, ◌/◌, ◌%◌, ◌^◌, ◌<◌, ◌≤◌, List, [], ◌∷◌, ◌++◌, length, get_or, drop, sym, ap, ◌∙◌, ap₂, arith, length-append, shr-shr}
 use Rattle.fields.specs.Fields.{FieldOf, elements}
 use Rattle.fields.specs.Laws.Derived.{one-mul}
 use Rattle.fields.specs.Laws.Solve.{con, ◌⊕◌, ◌⊖◌, ◌⊗◌, ◌≐◌, solve1}
@@ -31,6 +31,6 @@ module _ {F : Type 0} (f : FieldOf F) where
   weight-joined (x ∷ head) tail number =
       let m = length head in
       let s : number / 2 ^ length tail / 2 ^ m ≡ number / 2 ^ length (head ++ tail) =
-      shr_shr number (length tail) m ∙ ap (λ (z : ℕ). number / 2 ^ z) (omega (arith, length-append head tail)) in
+      shr-shr number (length tail) m ∙ ap (λ (z : ℕ). number / 2 ^ z) (omega (arith, length-append head tail)) in
       f.mul_assoc (eq_pair f (elements f) (bit f (number / 2 ^ length tail / 2 ^ m % 2)) x) (weight (number / 2 ^ length tail) head) (weight number tail)
       ∙ ap₂ (λ (z : ℕ) (w : F). f.mul (eq_pair f (elements f) (bit f (z % 2)) x) w) s (weight-joined head tail number)

@@ -1,3 +1,5 @@
+#![tactic(auto)]
+
 pub mod counting;
 pub mod counts;
 pub mod examples;

@@ -16,7 +16,7 @@ one_more f p i a x h k is =
 
 pub loop-i-init : goal.loop-i-init
 loop-i-init g c =
-    c.zero-element-sum.ensures ∙ ap (λ p. value g.F.Field.field p c.args.x) (sym (drop-length c.args.message.now))
+    c.zero_element-sum.ensures ∙ ap (λ p. value g.F.Field.field p c.args.x) (sym (drop-length c.args.message.now))
 
 pub loop-i-preserved : goal.loop-i-preserved
 loop-i-preserved g c =

@@ -13,17 +13,17 @@ returns-then-cycle-eq0 g t c =
     let first = ap e (add-zero start) in
     record {
       all = cc (first, all_of_one f (from e start) c.args.cycle.now c.if-cycle-eq0.true);
-      before = c.zero-element.ensures ∙ before_of_one f (from e start) c.args.cycle.now c.if-cycle-eq0.true;
+      before = c.zero_element.ensures ∙ before_of_one f (from e start) c.args.cycle.now c.if-cycle-eq0.true;
     }
 
-pub cell-sums-low-requires : goal.cell-sums-low-requires
-cell-sums-low-requires g t c κs within =
+pub cell_sums-low-requires : goal.cell_sums-low-requires
+cell_sums-low-requires g t c κs within =
     let p = c.args.cycle.now in
     let half = halved p (rest p) _ c.args.count (first_rest p g.F.Field.field.zero (omega arith)) c.requires.count in
     (search rules, (search rules, (search rules, (half.0, omega arith))))
 
-pub cell-sums-high-requires : goal.cell-sums-high-requires
-cell-sums-high-requires g t c κs within =
+pub cell_sums-high-requires : goal.cell_sums-high-requires
+cell_sums-high-requires g t c κs within =
     let p = c.args.cycle.now in
     let half = halved p (rest p) _ c.args.count (first_rest p g.F.Field.field.zero (omega arith)) c.requires.count in
     (search rules, (search rules, (search rules, (half.0, omega arith))))

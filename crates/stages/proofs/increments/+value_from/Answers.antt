@@ -6,8 +6,8 @@ use Rattle.tables.proofs.Halves.{rest, first_and_rest}
 use Rattle.stages.proofs.Halving.{from, halved, value_of_cell, value_halves}
 use Rattle.stages.proofs.increments.+value_from.Goals as goal
 
-pub cell-sums-requires : goal.cell-sums-requires
-cell-sums-requires g t c =
+pub cell_sums-requires : goal.cell_sums-requires
+cell_sums-requires g t c =
     record {
       count = c.requires.count ∙ ap (λ z. 2 ^ length (z ++ c.args.cycle.now)) (nil_from_length c.args.address.now c.if-address-eq0.true);
       inside = c.requires.inside;
@@ -19,15 +19,15 @@ returns-then-address-eq0 g t c =
     let e = entry f (g.M.Committed.table c.args.inc.now).entries in
     cc (value_of_cell f (from e c.args.start) c.args.address.now c.args.cycle.now c.if-address-eq0.true)
 
-pub value-from-low-requires : goal.value-from-low-requires
-value-from-low-requires g t c κs within =
+pub value_from-low-requires : goal.value_from-low-requires
+value_from-low-requires g t c κs within =
     let p = c.args.address.now in
     let j = c.args.cycle.now in
     let half = halved (p ++ j) (rest p ++ j) _ c.args.count (ap (λ z. z ++ j) (first_rest p g.F.Field.field.zero (omega arith))) c.requires.count in
     (search rules, (search rules, (search rules, (half.0, omega arith))))
 
-pub value-from-high-requires : goal.value-from-high-requires
-value-from-high-requires g t c κs within =
+pub value_from-high-requires : goal.value_from-high-requires
+value_from-high-requires g t c κs within =
     let p = c.args.address.now in
     let j = c.args.cycle.now in
     let half = halved (p ++ j) (rest p ++ j) _ c.args.count (ap (λ z. z ++ j) (first_rest p g.F.Field.field.zero (omega arith))) c.requires.count in

@@ -1,5 +1,5 @@
 use Rattle.std.proofs.Common.{length}
 use Rattle.stages.proofs.increments.+value_from.Given as goal
 
-abbrev pub decreases-value-from : goal.decreases-value-from
-decreases-value-from g l = length l.address.now
+abbrev pub decreases-value_from : goal.decreases-value_from
+decreases-value_from g l = length l.address.now

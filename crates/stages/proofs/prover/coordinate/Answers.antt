@@ -11,5 +11,5 @@ returns-then-i-r-2 g c = coordinate_own g.F.Field.field c.args.r.now c.args.x c.
 
 pub returns-else-i-r-2 : goal.returns-else-i-r-2
 returns-else-i-r-2 g c =
-    c.last-bit.ensures
+    c.last_bit.ensures
     ∙ coordinate_after g.F.Field.field c.args.r.now c.args.x c.args.left c.args.index c.args.i (omega arith) c.requires.within

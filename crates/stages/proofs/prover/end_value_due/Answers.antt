@@ -12,16 +12,16 @@ pub unreachable-requires : goal.unreachable-requires
 unreachable-requires c =
     let p = c.args.plan in
     let i = c.loop-index.index in
-    let some = sym (slice_get-get_or (stages p) i Read (omega (arith, c.stage-count-index-end.ensures))) ∙ ap (stage_at p) (sym (add-one i)) ∙ sym c.in-default.ensures in
+    let some = sym (slice_get-get_or (stages p) i Read (omega (arith, c.stage_count-index-end.ensures))) ∙ ap (stage_at p) (sym (add-one i)) ∙ sym c.in_default.ensures in
     let z : ◌≡◌ {A = ℕ} 0 1 = cc in
     omega arith
 
-pub overflow-add-end : goal.overflow-add-end
-overflow-add-end c = omega (arith, few_challenges c.args.plan c.in-Some.stage, c.draws.ensures, c.rounds.ensures)
+pub overflow_add-end : goal.overflow_add-end
+overflow_add-end c = omega (arith, few_challenges c.args.plan c.in-Some.stage, c.draws.ensures, c.rounds.ensures)
 
-pub overflow-add-end-in-loop-index : goal.overflow-add-end-in-loop-index
-overflow-add-end-in-loop-index c =
-    omega (arith, few_challenges c.args.plan c.in-Some.stage, few_stages c.args.plan, c.loop-index.invariant.1, c.draws.ensures, c.rounds.ensures, c.stage-count-index-end.ensures, c.loop-index-test.true)
+pub overflow_add-end-in-loop-index : goal.overflow_add-end-in-loop-index
+overflow_add-end-in-loop-index c =
+    omega (arith, few_challenges c.args.plan c.in-Some.stage, few_stages c.args.plan, c.loop-index.invariant.1, c.draws.ensures, c.rounds.ensures, c.stage_count-index-end.ensures, c.loop-index-test.true)
 
 pub returns-then-end-count : goal.returns-then-end-count
 returns-then-end-count c =
@@ -31,7 +31,7 @@ returns-then-end-count c =
     let end_is : c.loop-index.end + (c.draws.result + c.rounds.result) ≡ challenges_before c.args.plan (suc c.loop-index.index) =
     end_of_turn p i c.loop-index.end c.draws.result c.rounds.result c.in-Some.stage c.in-Some.ensures c.loop-index.invariant.0 c.draws.ensures c.rounds.ensures in
     sym
-    (some_found (asks_at p c.args.count) (length (stages p)) i (omega (arith, c.stage-count-index-end.ensures))
+    (some_found (asks_at p c.args.count) (length (stages p)) i (omega (arith, c.stage_count-index-end.ensures))
     (asks_of p c.args.count i c.in-Some.stage here
     ∙ and_from (asks p.kind c.in-Some.stage) (eqb (challenges_before p (suc i)) c.args.count) (sym c.if-asks.ensures)
     (eq-eqb (challenges_before p (suc i)) c.args.count (sym end_is ∙ c.if-end-count.true))))

@@ -3,8 +3,8 @@ use Rattle.stages.specs.Memory.{chunk_at}
 use Rattle.stages.proofs.Fits.{fits_count, fits_variables, entries_at}
 use Rattle.stages.proofs.prover.numbered.Goals as goal
 
-pub offset-bounds-tables-number : goal.offset-bounds-tables-number
-offset-bounds-tables-number g c = omega (arith, fits_count g.A.Committed.table c.args.tables.now c.args.sizes c.requires.chunks)
+pub offset_bounds-tables-number : goal.offset_bounds-tables-number
+offset_bounds-tables-number g c = omega (arith, fits_count g.A.Committed.table c.args.tables.now c.args.sizes c.requires.chunks)
 
 pub bounds-tables-number : goal.bounds-tables-number
 bounds-tables-number g c = omega (arith, fits_count g.A.Committed.table c.args.tables.now c.args.sizes c.requires.chunks)

@@ -9,12 +9,12 @@ use Rattle.stages.proofs.Coordinates.{back_part}
 use Rattle.stages.proofs.Due.{draws-found, rounds-found, message_from-kept}
 use Rattle.stages.proofs.prover.round_polynomial.Goals as goal
 
-pub round-sum-requires : goal.round-sum-requires
-round-sum-requires g c =
+pub round_sum-requires : goal.round_sum-requires
+round_sum-requires g c =
     let xs = c.args.challenges.now in
     let start = c.args.start in
     let own = c.args.start + c.draws.result in
-    let from = c.saturating-sub-from.result in
+    let from = c.saturating_sub-from.result in
     let drawn : c.draws.result ≡ draws (plan_of c.args.sizes c.args.tables.now) c.args.stage =
     draws-found c.args.sizes _ _ c.kind.ensures c.args.stage c.draws.result c.draws.ensures in
     let all : c.rounds.result ≡ rounds (plan_of c.args.sizes c.args.tables.now) c.args.stage =
@@ -28,7 +28,7 @@ round-sum-requires g c =
       before =
           λ value.
           ap length (between_is xs from start) ∙ length-slice from start xs (omega arith)
-          ∙ omega (arith, c.requires.before value, c.saturating-sub-from.ensures, c.address-bits.ensures.value, c.cycle_bits.ensures.value);
+          ∙ omega (arith, c.requires.before value, c.saturating_sub-from.ensures, c.address_bits.ensures.value, c.cycle_bits.ensures.value);
       rounds = omega (arith, c.requires.left);
     }
 
@@ -43,18 +43,18 @@ returns g c =
     let all : c.rounds.result ≡ rounds (plan_of c.args.sizes c.args.tables.now) c.args.stage =
     rounds-found c.args.sizes _ _ c.kind.ensures c.args.stage c.rounds.result c.rounds.ensures in
     let own : c.args.start + c.draws.result ≡ c.args.start + draws (plan_of c.args.sizes c.args.tables.now) c.args.stage = ap (λ n. c.args.start + n) drawn in
-    let from : c.saturating-sub-from.result ≡ c.args.start - point_size (plan_of c.args.sizes c.args.tables.now) =
-    c.saturating-sub-from.ensures ∙ omega (arith, c.address-bits.ensures.value, c.cycle_bits.ensures.value) in
+    let from : c.saturating_sub-from.result ≡ c.args.start - point_size (plan_of c.args.sizes c.args.tables.now) =
+    c.saturating_sub-from.ensures ∙ omega (arith, c.address_bits.ensures.value, c.cycle_bits.ensures.value) in
     let rest : take (length c.args.challenges.now - (c.args.start + c.draws.result)) (drop (c.args.start + c.draws.result) c.args.challenges.now)
     ≡ drop (c.args.start + draws (plan_of c.args.sizes c.args.tables.now) c.args.stage) c.args.challenges.now =
     back_part xs (c.args.start + c.draws.result) (omega (arith, c.requires.drawn)) ∙ ap (λ n. drop n xs) own in
     let done = ap length rest ∙ length-drop (c.args.start + draws (plan_of s tables) c.args.stage) xs in
     message_from-kept g.F.Field.field (plan_of s tables) (memory g.A.Committed.table g.M.Committed.table g.V.Committed.table tables) xs start c.args.stage
-    (coefficients c.round-sum.result) _ _
+    (coefficients c.round_sum.result) _ _
     (take (length c.args.challenges.now - (c.args.start + c.draws.result)) (drop (c.args.start + c.draws.result) c.args.challenges.now))
     (c.rounds.result - 1 - length (take (length c.args.challenges.now - (c.args.start + c.draws.result)) (drop (c.args.start + c.draws.result) c.args.challenges.now)))
     (omega (arith, c.requires.left, c.requires.drawn))
     (between_is xs start (c.args.start + c.draws.result) ∙ ap (λ n. slice start n xs) own)
-    (between_is xs c.saturating-sub-from.result start ∙ ap (λ n. slice n start xs) from)
+    (between_is xs c.saturating_sub-from.result start ∙ ap (λ n. slice n start xs) from)
     rest
-    c.round-sum.ensures
+    c.round_sum.ensures

@@ -5,11 +5,11 @@ use Rattle.stages.proofs.Kept.{kept-plus}
 use Rattle.stages.proofs.Stages.{rounds-within}
 use Rattle.stages.proofs.prover.round_sum.Goals as goal
 
-pub overflow-shl-index-end : goal.overflow-shl-index-end
-overflow-shl-index-end g c = omega (arith, c.requires.rounds, rounds-within (plan_of c.args.sizes c.args.tables.now) c.args.stage)
+pub overflow_shl-index-end : goal.overflow_shl-index-end
+overflow_shl-index-end g c = omega (arith, c.requires.rounds, rounds-within (plan_of c.args.sizes c.args.tables.now) c.args.stage)
 
-pub corner-term-requires : goal.corner-term-requires
-corner-term-requires g c =
+pub corner_term-requires : goal.corner_term-requires
+corner_term-requires g c =
     record {
       fit = c.requires.fit;
       planned = c.requires.planned;

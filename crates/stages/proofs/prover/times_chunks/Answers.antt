@@ -1,4 +1,4 @@
-use Rattle.std.proofs.Common.{◌≡◌, suc, ◌+◌, ◌++◌, map, sym, ap, ◌∙◌, add-one, arith}
+use Rattle.std.proofs.Common.{◌≡◌, ◌++◌, map, sym, ap, ◌∙◌, add-one, arith}
 use Rattle.fields.specs.Fields.{elements}
 use Rattle.rounds.specs.Accumulators.{coefficients, kept}
 use Rattle.stages.specs.Terms.{chunk_factor, times_chunks}
@@ -7,8 +7,8 @@ use Rattle.stages.proofs.Fits.{fits_count, fits_variables, entries_at}
 use Rattle.stages.proofs.Kept.{times-line_is}
 use Rattle.stages.proofs.prover.times_chunks.Goals as goal
 
-pub chunk-value-zero-requires : goal.chunk-value-zero-requires
-chunk-value-zero-requires g c =
+pub chunk_value-zero-requires : goal.chunk_value-zero-requires
+chunk_value-zero-requires g c =
     let e = g.A.Committed.table in
     let xs = c.args.tables.now in
     record {
@@ -17,8 +17,8 @@ chunk-value-zero-requires g c =
       point = c.requires.low;
     }
 
-pub chunk-value-one-requires : goal.chunk-value-one-requires
-chunk-value-one-requires g c =
+pub chunk_value-one-requires : goal.chunk_value-one-requires
+chunk_value-one-requires g c =
     let e = g.A.Committed.table in
     let xs = c.args.tables.now in
     record {
@@ -38,15 +38,15 @@ loop-i-preserved g c =
     let high = c.args.high.now in
     let tables = map (λ m. (e m).entries) xs in
     let so_far = times_chunks f s low high tables i (coefficients c.args.first) in
-    let zero : c.chunk-value-zero.result ≡ chunk_factor f s (map (λ m. (g.A.Committed.table m).entries) c.args.tables.now) c.loop-i.i c.args.low.now =
-    c.chunk-value-zero.ensures
+    let zero : c.chunk_value-zero.result ≡ chunk_factor f s (map (λ m. (g.A.Committed.table m).entries) c.args.tables.now) c.loop-i.i c.args.low.now =
+    c.chunk_value-zero.ensures
     ∙ ap (λ m. chunk_value f s (elements f) m (chunk_part f s (elements f) i (address_of f s (elements f) low) ++ cycle_of f s (elements f) low))
     (sym (entries_at e xs i c.index-tables-i.result c.loop-i-test.true c.index-tables-i.is)) in
-    let one : c.chunk-value-one.result ≡ chunk_factor f s (map (λ m. (g.A.Committed.table m).entries) c.args.tables.now) c.loop-i.i c.args.high.now =
-    c.chunk-value-one.ensures
+    let one : c.chunk_value-one.result ≡ chunk_factor f s (map (λ m. (g.A.Committed.table m).entries) c.args.tables.now) c.loop-i.i c.args.high.now =
+    c.chunk_value-one.ensures
     ∙ ap (λ m. chunk_value f s (elements f) m (chunk_part f s (elements f) i (address_of f s (elements f) high) ++ cycle_of f s (elements f) high))
     (sym (entries_at e xs i c.index-tables-i-in-loop-i.result c.loop-i-test.true c.index-tables-i-in-loop-i.is)) in
-    times-line_is f _ _ so_far _ _ (chunk_factor f s tables i low) (chunk_factor f s tables i high) c.loop-i.invariant zero one c.times-line-product.ensures.cut
+    times-line_is f _ _ so_far _ _ (chunk_factor f s tables i low) (chunk_factor f s tables i high) c.loop-i.invariant zero one c.times_line-product.ensures.cut
     ∙ sym (ap (λ n. kept f (times_chunks f s low high tables n (coefficients c.args.first))) (add-one i))
 
 pub returns : goal.returns

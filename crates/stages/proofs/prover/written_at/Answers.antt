@@ -12,7 +12,7 @@ returns g c =
     let f = g.F.Field.field in
     let s = c.args.sizes in
     let point = c.args.point.now in
-    let bits = c.address-bits-k in
+    let bits = c.address_bits-k in
     let cycle = append-nil _ ∙ back_part_from point bits.result (k s) bits.ensures.value (omega arith) in
-    let written = opened_is f (g.V.Committed.table c.args.wv.now) s.t _ (cycle_of f s (elements f) point) c.opened-at-written.result c.requires.written cycle c.opened-at-written.ensures in
-    c.minus.ensures ∙ ap₂ (less f (elements f)) written c.held-at.ensures
+    let written = opened_is f (g.V.Committed.table c.args.wv.now) s.t _ (cycle_of f s (elements f) point) c.opened_at-written.result c.requires.written cycle c.opened_at-written.ensures in
+    c.minus.ensures ∙ ap₂ (less f (elements f)) written c.held_at.ensures

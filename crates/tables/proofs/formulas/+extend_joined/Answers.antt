@@ -10,14 +10,14 @@ joined_nil xs ys h = ap (λ z. xs ++ z) (nil_from_length ys h) ∙ append-nil xs
 pub extend-requires : goal.extend-requires
 extend-requires g t c = c.requires ∙ ap (λ z. 2 ^ length (z ++ c.args.tail.now)) (nil_from_length c.args.head.now c.if-head-eq0.true)
 
-pub extend-joined-low-requires : goal.extend-joined-low-requires
-extend-joined-low-requires g t c κs within =
+pub extend_joined-low-requires : goal.extend_joined-low-requires
+extend_joined-low-requires g t c κs within =
     let p = c.args.head.now in
     let q = c.args.tail.now in
     (search rules, (search rules, low-length c.args.items.now (length (rest p ++ q)) (c.requires ∙ ap (λ z. 2 ^ length (z ++ q)) (first_rest p g.F.Field.field.zero (omega arith)))))
 
-pub extend-joined-high-requires : goal.extend-joined-high-requires
-extend-joined-high-requires g t c κs within =
+pub extend_joined-high-requires : goal.extend_joined-high-requires
+extend_joined-high-requires g t c κs within =
     let p = c.args.head.now in
     let q = c.args.tail.now in
     (search rules, (search rules, high-length c.args.items.now (length (rest p ++ q)) (c.requires ∙ ap (λ z. 2 ^ length (z ++ q)) (first_rest p g.F.Field.field.zero (omega arith)))))
@@ -36,5 +36,5 @@ pub returns-else-tail-eq0 : goal.returns-else-tail-eq0
 returns-else-tail-eq0 g t c =
     let p = c.args.head.now in
     let q = c.args.tail.now in
-    c.line-at.ensures
-    ∙ value_halves g.F.Field.field c.args.items.now (p ++ q) (rest p ++ q) _ _ _ (ap (λ z. z ++ q) (first_and_rest p _ (omega arith) c.index-head-0.is)) c.requires c.extend-joined-low.ensures c.extend-joined-high.ensures
+    c.line_at.ensures
+    ∙ value_halves g.F.Field.field c.args.items.now (p ++ q) (rest p ++ q) _ _ _ (ap (λ z. z ++ q) (first_and_rest p _ (omega arith) c.index-head-0.is)) c.requires c.extend_joined-low.ensures c.extend_joined-high.ensures

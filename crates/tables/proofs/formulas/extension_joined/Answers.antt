@@ -12,6 +12,6 @@ returns g c =
     let table : length es ≡ 2 ^ variables_in (length es) = search rules in
     let point : eqb (length p) (variables_in (length es)) ≡ true = cc in
     record {
-      value = ap Ok c.extend-joined.ensures ∙ on_fitting_table f es p _ table point;
-      sum = ap Ok (c.extend-joined.ensures ∙ ext_flat f (length p) (entry f es) p) ∙ on_fitting_table f es p _ table point;
+      value = ap Ok c.extend_joined.ensures ∙ on_fitting_table f es p _ table point;
+      sum = ap Ok (c.extend_joined.ensures ∙ ext_flat f (length p) (entry f es) p) ∙ on_fitting_table f es p _ table point;
     }

@@ -9,7 +9,7 @@ pub loop-i-init : goal.loop-i-init
 loop-i-init g c =
     let f = g.F.Field.field in
     let xs = c.args.x.now in
-    c.zero-element-less.ensures ∙ ap (λ z. lt f (elements f) z (drop (length xs) c.args.y.now)) (sym (drop-length xs))
+    c.zero_element-less.ensures ∙ ap (λ z. lt f (elements f) z (drop (length xs) c.args.y.now)) (sym (drop-length xs))
 
 pub loop-i-preserved : goal.loop-i-preserved
 loop-i-preserved g c =

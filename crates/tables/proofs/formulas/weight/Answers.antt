@@ -1,4 +1,4 @@
-use Rattle.std.proofs.Common.{◌≡◌, ℕ, ◌+◌, ◌-◌, ◌/◌, ◌^◌, length, drop, sym, ap, ◌∙◌, div-one, arith, shr_shr}
+use Rattle.std.proofs.Common.{◌≡◌, ℕ, ◌+◌, ◌-◌, ◌/◌, ◌^◌, length, drop, sym, ap, ◌∙◌, div-one, arith, shr-shr}
 use Rattle.fields.specs.Fields.{elements}
 use Rattle.tables.specs.Formulas.{eq}
 use Rattle.tables.specs.Sums.{corner}
@@ -12,7 +12,7 @@ loop-i-init g c =
     let n = c.args.number in
     let none : length p - length p ≡ 0 = omega arith in (
       sym (ap (λ (m : ℕ). n / 2 ^ m) none ∙ div-one n),
-      c.one-element-product.ensures ∙ ap (λ (m : ℕ). eq f (elements f) (corner f m n) (drop (length p) p)) (sym none),
+      c.one_element-product.ensures ∙ ap (λ (m : ℕ). eq f (elements f) (corner f m n) (drop (length p) p)) (sym none),
     )
 
 pub loop-i-preserved : goal.loop-i-preserved
@@ -22,7 +22,7 @@ loop-i-preserved g c =
     let i = c.loop-i.i in
     let n = c.args.number in
     let more : length p - i + 1 ≡ length p - (i - 1) = omega arith in (
-      ap (λ (m : ℕ). m / 2) c.loop-i.invariant.0 ∙ shr_shr n (length p - i) 1 ∙ ap (λ (m : ℕ). n / 2 ^ m) more,
+      ap (λ (m : ℕ). m / 2) c.loop-i.invariant.0 ∙ shr-shr n (length p - i) 1 ∙ ap (λ (m : ℕ). n / 2 ^ m) more,
       cc (weight_more f p i n _ c.loop-i-test.true c.loop-i.auto.i c.index-point-i.is),
     )
 

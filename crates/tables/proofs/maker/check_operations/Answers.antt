@@ -13,14 +13,14 @@ loop-j-preserved g c = λ v.
     let o = c.index-operations-j.result in
     c.loop-j.invariant v
     ∙ all_next (addressed_below c.cells-cells.result) c.loop-j.j c.args.operations.now o v c.loop-j-test.true
-    (ap (addressed_below c.cells-cells.result) (sym c.index-operations-j.is) ∙ sym c.if-not-is-below.ensures)
+    (ap (addressed_below c.cells-cells.result) (sym c.index-operations-j.is) ∙ sym c.if-not-is_below.ensures)
 
-pub returns-then-not-is-below : goal.returns-then-not-is-below
-returns-then-not-is-below g c =
+pub returns-then-not-is_below : goal.returns-then-not-is_below
+returns-then-not-is_below g c =
     let ops = c.args.operations.now in
     let v : Result (Unit {0}) Refusal = cond (leb (length ops) (cycle_count c.args.sizes)) (Ok tt) (Err WrongCount) in
     walk_found (addressed_below c.cells-cells.result) c.loop-j.j ops v (c.loop-j.invariant v) c.index-operations-j.result c.loop-j-test.true
-    (ap (addressed_below c.cells-cells.result) (sym c.index-operations-j.is) ∙ sym c.if-not-is-below.ensures)
+    (ap (addressed_below c.cells-cells.result) (sym c.index-operations-j.is) ∙ sym c.if-not-is_below.ensures)
     ∙ ap (λ (k : ℕ). if_all (addressed_below k) 0 ops v) c.cells-cells.ensures
 
 pub returns-then-operations-cycles : goal.returns-then-operations-cycles

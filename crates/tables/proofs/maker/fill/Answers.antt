@@ -13,8 +13,8 @@ loop-j-init g c =
     entered_none f c.args.sizes c.args.operations.now c.args.reads.now c.args.writes.now c.args.rv.now c.args.wv.now c.args.inc.now c.clear.new.list c.requires.lengths.in_inc
     (c.clear.ensures ∙ ap₂ (λ (k t : ℕ). placed (k * t) (λ _. f.zero) c.args.inc.now) c.cells.ensures c.cycles.ensures)
 
-pub enter-cycle-requires : goal.enter-cycle-requires
-enter-cycle-requires g c =
+pub enter_cycle-requires : goal.enter_cycle-requires
+enter_cycle-requires g c =
     let s = c.args.sizes in
     let o = c.index-operations-j.result in
     let cell_below : o.write < cell_count s = omega (arith, ap (λ z. z.write) c.index-operations-j.is, c.requires.operations.writes_below c.loop-j.j o c.loop-j-test.true) in
@@ -32,7 +32,7 @@ loop-j-preserved g c =
     let cell_below : o.write < cell_count s = omega (arith, ap (λ z. z.write) c.index-operations-j.is, c.requires.operations.writes_below l.j o c.loop-j-test.true) in
     entered_more f s ops l.j c.args.reads.now c.args.writes.now c.args.rv.now c.args.wv.now c.clear.new.list l.reads l.writes l.rv l.wv l.inc l.invariant
     o (get_or_read ops l.j o c.loop-j-test.true c.index-operations-j.is (record { read = 0; write = 0; value = f.zero })) (omega arith) cell_below (omega arith) (omega arith) (omega arith) (omega arith)
-    _ _ _ _ _ c.enter-cycle.ensures.reads c.enter-cycle.ensures.writes c.enter-cycle.ensures.rv c.enter-cycle.ensures.wv c.enter-cycle.ensures.inc
+    _ _ _ _ _ c.enter_cycle.ensures.reads c.enter_cycle.ensures.writes c.enter_cycle.ensures.rv c.enter_cycle.ensures.wv c.enter_cycle.ensures.inc
 
 pub loop-j-2-init : goal.loop-j-2-init
 loop-j-2-init g c =
@@ -46,8 +46,8 @@ loop-j-2-init g c =
     entered_again f s ops (length ops) c.args.reads.now c.args.writes.now c.args.rv.now c.args.wv.now c.clear.new.list l.reads l.writes l.rv l.wv l.inc inv
     (omega arith) (omega arith) (omega arith) (omega arith) (omega arith)
 
-pub enter-cycle-requires-in-loop-j-2 : goal.enter-cycle-requires-in-loop-j-2
-enter-cycle-requires-in-loop-j-2 g c =
+pub enter_cycle-requires-in-loop-j-2 : goal.enter_cycle-requires-in-loop-j-2
+enter_cycle-requires-in-loop-j-2 g c =
     let s = c.args.sizes in
     let cell_below : 0 < cell_count s = pow_pos (k s) in
     let cycle_below : c.loop-j-2.j < cycle_count s = omega (arith, c.cycles-j-end.ensures) in
@@ -64,9 +64,9 @@ loop-j-2-preserved g c =
     let m = c.loop-j-2 in
     let cycle_below : m.j < cycle_count s = omega (arith, c.cycles-j-end.ensures) in
     entered_more f s ops m.j l.reads l.writes l.rv l.wv l.inc m.reads m.writes m.rv m.wv m.inc m.invariant
-    (record { read = 0; write = 0; value = c.zero-element.result }) (filling_is f s ops c.zero-element.result m.j c.zero-element.ensures (omega arith)) cycle_below (pow_pos (k s))
+    (record { read = 0; write = 0; value = c.zero_element.result }) (filling_is f s ops c.zero_element.result m.j c.zero_element.ensures (omega arith)) cycle_below (pow_pos (k s))
     (omega arith) (omega arith) (omega arith) (omega arith)
-    _ _ _ _ _ c.enter-cycle-in-loop-j-2.ensures.reads c.enter-cycle-in-loop-j-2.ensures.writes c.enter-cycle-in-loop-j-2.ensures.rv c.enter-cycle-in-loop-j-2.ensures.wv c.enter-cycle-in-loop-j-2.ensures.inc
+    _ _ _ _ _ c.enter_cycle-in-loop-j-2.ensures.reads c.enter_cycle-in-loop-j-2.ensures.writes c.enter_cycle-in-loop-j-2.ensures.rv c.enter_cycle-in-loop-j-2.ensures.wv c.enter_cycle-in-loop-j-2.ensures.inc
 
 pub returns : goal.returns
 returns g c =

@@ -24,5 +24,5 @@ pub returns : goal.returns
 returns g c =
     let f = g.F.Field.field in
     let none : c.loop-j.j ≡ 0 = omega arith in
-    c.zero-element.ensures
+    c.zero_element.ensures
     ∙ sym (c.loop-j.invariant ∙ ap (cell f (λ i. get_or c.args.writes.now i 0) (entry f c.args.wv.now) c.args.address) none)

@@ -8,8 +8,8 @@ pub fill-requires : goal.fill-requires
 fill-requires g c = record {
   lengths =
       room c.args.sizes (length c.args.reads.now) (length c.args.writes.now) (length c.args.rv.now) (length c.args.wv.now) (length c.args.inc.now)
-      (sym c.if-not-has-room.ensures);
-  operations = fitting c.args.sizes c.args.operations.now (sym c.in-default.ensures);
+      (sym c.if-not-has_room.ensures);
+  operations = fitting c.args.sizes c.args.operations.now (sym c.in_default.ensures);
 }
 
 pub returns : goal.returns
@@ -18,13 +18,13 @@ returns g c =
     let ops = c.args.operations.now in
     let made = c.fill.ensures in
     record {
-      answer = c.in-default.ensures ∙ ap (λ b. cond b (operations_answer s ops) (Err TooShort)) c.if-not-has-room.ensures;
+      answer = c.in_default.ensures ∙ ap (λ b. cond b (operations_answer s ops) (Err TooShort)) c.if-not-has_room.ensures;
       reads = made.reads;
       writes = made.writes;
       rv = made.rv;
       wv = made.wv;
       inc = made.inc;
       run = λ _.
-          placed_run g.F.Field.field s ops (fitting s ops (sym c.in-default.ensures)) c.args.reads.now c.args.writes.now c.args.rv.now c.args.wv.now c.args.inc.now
+          placed_run g.F.Field.field s ops (fitting s ops (sym c.in_default.ensures)) c.args.reads.now c.args.writes.now c.args.rv.now c.args.wv.now c.args.inc.now
           _ _ _ _ _ made.reads made.writes made.rv made.wv made.inc;
     }

@@ -3,14 +3,14 @@ use Rattle.std.specs.Str.Parse.{digits_value}
 use Rattle.texts.proofs.Numbers.{value_small, digit_here, value_step}
 use Rattle.texts.proofs.job.digits_value.Goals as goal
 
-pub overflow-mul-number : goal.overflow-mul-number
-overflow-mul-number c = omega (arith, value_small c.args.digits.now c.loop-b.b-index c.requires.digits c.requires.short, c.loop-b.invariant)
+pub overflow_mul-number : goal.overflow_mul-number
+overflow_mul-number c = omega (arith, value_small c.args.digits.now c.loop-b.b-index c.requires.digits c.requires.short, c.loop-b.invariant)
 
-pub overflow-sub-number : goal.overflow-sub-number
-overflow-sub-number c = (digit_here c.args.digits.now c.loop-b.b-index _ c.requires.digits (omega arith) refl).0
+pub overflow_sub-number : goal.overflow_sub-number
+overflow_sub-number c = (digit_here c.args.digits.now c.loop-b.b-index _ c.requires.digits (omega arith) refl).0
 
-pub overflow-add-number : goal.overflow-add-number
-overflow-add-number c =
+pub overflow_add-number : goal.overflow_add-number
+overflow_add-number c =
     omega (
       arith,
       value_small c.args.digits.now c.loop-b.b-index c.requires.digits c.requires.short,

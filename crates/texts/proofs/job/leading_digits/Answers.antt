@@ -3,13 +3,13 @@ use Rattle.std.specs.Char.{is_ascii_digit}
 use Rattle.std.proofs.lemmas.List.Sums.{prefix_len-drop_yes, prefix_len-drop_no, prefix_len-drop_all}
 use Rattle.texts.proofs.job.leading_digits.Goals as goal
 
-pub returns-then-not-is-ascii-digit : goal.returns-then-not-is-ascii-digit
-returns-then-not-is-ascii-digit c =
+pub returns-then-not-is_ascii_digit : goal.returns-then-not-is_ascii_digit
+returns-then-not-is_ascii_digit c =
     record {
       value = omega (
         arith,
         c.loop-i.invariant,
-        prefix_len-drop_no is_ascii_digit c.args.bytes.now c.loop-i.i 0 (omega arith) (sym c.if-not-is-ascii-digit.ensures.value),
+        prefix_len-drop_no is_ascii_digit c.args.bytes.now c.loop-i.i 0 (omega arith) (sym c.if-not-is_ascii_digit.ensures.value),
       );
       bound = omega arith;
     }
@@ -19,7 +19,7 @@ loop-i-preserved c =
     omega (
       arith,
       c.loop-i.invariant,
-      prefix_len-drop_yes is_ascii_digit c.args.bytes.now c.loop-i.i 0 (omega arith) (sym c.if-not-is-ascii-digit.ensures.value),
+      prefix_len-drop_yes is_ascii_digit c.args.bytes.now c.loop-i.i 0 (omega arith) (sym c.if-not-is_ascii_digit.ensures.value),
     )
 
 pub returns : goal.returns

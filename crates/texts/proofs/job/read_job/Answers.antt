@@ -4,36 +4,36 @@ use Rattle.texts.specs.Jobs.{tab, kind_name}
 use Rattle.texts.proofs.Lines.{from_t, from_c, from_d, line_parts, whole, after_kind, after_d, after_c}
 use Rattle.texts.proofs.job.read_job.Goals as goal
 
-pub returns-in-default : goal.returns-in-default
-returns-in-default c = (refl, λ j b. c.in-default.ensures j.kind (from_d j b.rest) (whole c.args.input.now j b))
+pub returns-in_default : goal.returns-in_default
+returns-in_default c = (refl, λ j b. c.in_default.ensures j.kind (from_d j b.rest) (whole c.args.input.now j b))
 
-pub returns-in-default-number : goal.returns-in-default-number
-returns-in-default-number c = (
+pub returns-in_default-number : goal.returns-in_default-number
+returns-in_default-number c = (
   refl,
   λ j b.
-      c.in-default-number.ensures j.d (from_c j b.rest) b.d_short
+      c.in_default-number.ensures j.d (from_c j b.rest) b.d_short
       (after_kind c.args.input.now j b c.in-Some.kind c.in-Some.rest.now c.in-Some.ensures),
 )
 
-pub returns-in-default-number-2 : goal.returns-in-default-number-2
-returns-in-default-number-2 c = (
+pub returns-in_default-number-2 : goal.returns-in_default-number-2
+returns-in_default-number-2 c = (
   refl,
   λ j b.
       let input = c.args.input.now in
       let d = c.in-Some-number.ensures in
-      c.in-default-number-2.ensures j.c (from_t j b.rest) b.c_short
+      c.in_default-number-2.ensures j.c (from_t j b.rest) b.c_short
       (after_d input j b c.in-Some-number.d c.in-Some.rest.now c.in-Some-number.rest.now d.0
       (after_kind input j b c.in-Some.kind c.in-Some.rest.now c.in-Some.ensures) d.1),
 )
 
-pub returns-in-default-number-3 : goal.returns-in-default-number-3
-returns-in-default-number-3 c = (
+pub returns-in_default-number-3 : goal.returns-in_default-number-3
+returns-in_default-number-3 c = (
   refl,
   λ j b.
       let input = c.args.input.now in
       let d = c.in-Some-number.ensures in
       let n = c.in-Some-number-2.ensures in
-      c.in-default-number-3.ensures j.t b.rest b.t_short
+      c.in_default-number-3.ensures j.t b.rest b.t_short
       (after_c input j b c.in-Some-number-2.c c.in-Some-number.rest.now c.in-Some-number-2.rest.now n.0
       (after_d input j b c.in-Some-number.d c.in-Some.rest.now c.in-Some-number.rest.now d.0
       (after_kind input j b c.in-Some.kind c.in-Some.rest.now c.in-Some.ensures) d.1)

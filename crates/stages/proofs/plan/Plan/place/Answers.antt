@@ -1,6 +1,5 @@
 use Rattle.std.proofs.Common.{◌≤◌, length, sym, ◌∙◌, arith}
 use Rattle.stages.specs.Plan.{stages}
-use Rattle.stages.specs.Places.{place}
 use Rattle.stages.proofs.Stages.{few_stages}
 use Rattle.stages.proofs.Places.{count_past, walk_below, walk_draw, walk_round, walk_on, walk_past}
 use Rattle.stages.proofs.plan.Plan.place.Goals as goal
@@ -8,8 +7,8 @@ use Rattle.stages.proofs.plan.Plan.place.Goals as goal
 below : (c : goal.After-loop-round) → c.walk.number ≤ length (stages c.args.self)
 below c = walk_below c.args.self c.args.count c.walk.number c.walk.left c.walk.invariant.0 c.walk.invariant.1 c.in-Some.stage (sym c.in-Some.ensures)
 
-pub overflow-add-number : goal.overflow-add-number
-overflow-add-number c = omega (arith, below c, few_stages c.args.self)
+pub overflow_add-number : goal.overflow_add-number
+overflow_add-number c = omega (arith, below c, few_stages c.args.self)
 
 pub walk-smaller : goal.walk-smaller
 walk-smaller c = omega (arith, below c)
@@ -21,9 +20,9 @@ walk-preserved c = (
       c.loop-round.left (omega arith),
 )
 
-pub returns-in-default : goal.returns-in-default
-returns-in-default c =
-    let e = walk_past c.args.self c.args.count c.walk.number c.walk.left c.walk.invariant.0 c.walk.invariant.1 (sym c.in-default.ensures) in
+pub returns-in_default : goal.returns-in_default
+returns-in_default c =
+    let e = walk_past c.args.self c.args.count c.walk.number c.walk.left c.walk.invariant.0 c.walk.invariant.1 (sym c.in_default.ensures) in
     record { place = sym e; past = λ h. sym e ∙ count_past c.args.self c.args.count h }
 
 pub returns-then-left-draws : goal.returns-then-left-draws

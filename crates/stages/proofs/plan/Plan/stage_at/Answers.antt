@@ -30,7 +30,7 @@ pub returns-then-index-d-3 : goal.returns-then-index-d-3
 returns-then-index-d-3 c =
     let d = c.args.self.sizes.d in
     let i = c.args.number - 1 in
-    ap Some c.chunk-stage-then-index-d-3.ensures
+    ap Some c.chunk_stage-then-index-d-3.ensures
     ∙ sym (stage_by_index c.args.self Twist c.args.number i c.in-Twist.is (omega arith)
     ∙ nth_chunks Ra d i (chunk_stages Wa d ++ memory_stages) (omega arith))
 
@@ -39,7 +39,7 @@ returns-then-index-d-4 c =
     let d = c.args.self.sizes.d in
     let i = c.args.number - 1 in
     let j = i - 2 * c.chunks-d.result in
-    ap Some c.chunk-stage-then-index-d-4.ensures
+    ap Some c.chunk_stage-then-index-d-4.ensures
     ∙ sym (stage_by_index c.args.self Twist c.args.number i c.in-Twist.is (omega arith)
     ∙ nth_after_chunks Ra d i j (chunk_stages Wa d ++ memory_stages) (omega arith) ∙ nth_chunks Wa d j memory_stages (omega arith))
 
@@ -48,6 +48,6 @@ returns-else-index-d-4 c =
     let d = c.args.self.sizes.d in
     let i = c.args.number - 1 in
     let j = i - 4 * c.chunks-d.result in
-    c.last-stage.ensures
+    c.last_stage.ensures
     ∙ sym (stage_by_index c.args.self Twist c.args.number i c.in-Twist.is (omega arith)
     ∙ nth_after_chunks Ra d i (i - 2 * d) (chunk_stages Wa d ++ memory_stages) (omega arith) ∙ nth_after_chunks Wa d (i - 2 * d) j memory_stages (omega arith))

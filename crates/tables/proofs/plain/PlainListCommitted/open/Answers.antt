@@ -17,17 +17,17 @@ returns-then-items-eq0 g c =
     let n = variables_in (length es) in
     let p = c.args.head.now ++ c.args.tail.now in
     let none : 0 ≡ n = ap variables_in (sym c.if-items-eq0.true) in
-    opens f n (variables_upto_few most_variables (length es)) (entry f es) p _ (c.if-not-fits.ensures ∙ ap (eqb (length p)) c.variables-of-n.ensures.value)
-    (c.zero-element.ensures
+    opens f n (variables_upto_few most_variables (length es)) (entry f es) p _ (c.if-not-fits.ensures ∙ ap (eqb (length p)) c.variables_of-n.ensures.value)
+    (c.zero_element.ensures
     ∙ sym (get_or-eq_default es f.zero (omega arith))
     ∙ sym (ext_none f (entry f es) p)
     ∙ ap (λ (m : ℕ). extension f (elements f) m (entry f es) p) none)
 
-pub slice-bounds-extension-joined-end : goal.slice-bounds-extension-joined-end
-slice-bounds-extension-joined-end g c =
+pub slice_bounds-extension_joined-end : goal.slice_bounds-extension_joined-end
+slice_bounds-extension_joined-end g c =
     let some : 0 < length c.args.self.now.items.now = omega arith in
-    let enough = c.variables-of-n.ensures.enough some in
-    let size = c.power-of-two.ensures.value c.variables-of-n.ensures.bound in
+    let enough = c.variables_of-n.ensures.enough some in
+    let size = c.power_of_two.ensures.value c.variables_of-n.ensures.bound in
     search rules
 
 pub returns : goal.returns
@@ -36,15 +36,15 @@ returns g c =
     let es = c.args.self.now.items.now in
     let n = variables_in (length es) in
     let p = c.args.head.now ++ c.args.tail.now in
-    let m = c.power-of-two.result - 0 in
+    let m = c.power_of_two.result - 0 in
     let few = variables_upto_few most_variables (length es) in
-    let fit = c.if-not-fits.ensures ∙ ap (eqb (length p)) c.variables-of-n.ensures.value in
-    let enough = c.variables-of-n.ensures.enough (omega arith) in
-    let power = c.power-of-two.ensures.value c.variables-of-n.ensures.bound in
-    let size : m ≡ 2 ^ n = omega (arith, power, ap (λ (k : ℕ). 2 ^ k) c.variables-of-n.ensures.value) in
+    let fit = c.if-not-fits.ensures ∙ ap (eqb (length p)) c.variables_of-n.ensures.value in
+    let enough = c.variables_of-n.ensures.enough (omega arith) in
+    let power = c.power_of_two.ensures.value c.variables_of-n.ensures.bound in
+    let size : m ≡ 2 ^ n = omega (arith, power, ap (λ (k : ℕ). 2 ^ k) c.variables_of-n.ensures.value) in
     let long : length (take m es) ≡ 2 ^ n = length-take-le m es (omega (arith, power)) ∙ size in
     let own : variables_in (length (take m es)) ≡ n = ap variables_in long ∙ variables_of_power most_variables n few in
-    c.extension-joined.ensures.value
+    c.extension_joined.ensures.value
     ∙ sym (on_fitting_table f (take m es) p _ (long ∙ ap (λ (k : ℕ). 2 ^ k) (sym own)) (ap (eqb (length p)) own ∙ sym fit))
     ∙ opens f n few (entry f es) p _ fit
     (ap (λ (k : ℕ). extension f (elements f) k (entry f (take m es)) p) (true-eqb (length p) n fit)

@@ -20,4 +20,4 @@ returns-else-index-items g c =
     let es = c.args.self.now.items.now in
     let i = c.args.index in
     let below : i < 2 ^ variables_in (length es) = search rules in
-    gives f (variables_in (length es)) (variables_upto_few most_variables (length es)) (entry f es) i _ below (c.zero-element.ensures ∙ sym (get_or-eq_default es f.zero c.if-index-items.false))
+    gives f (variables_in (length es)) (variables_upto_few most_variables (length es)) (entry f es) i _ below (c.zero_element.ensures ∙ sym (get_or-eq_default es f.zero c.if-index-items.false))

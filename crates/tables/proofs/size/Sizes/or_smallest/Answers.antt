@@ -6,4 +6,4 @@ pub returns-in-Ok : goal.returns-in-Ok
 returns-in-Ok c = made_or_other (within c.args.d c.args.c c.args.t) _ _ c.in-Ok.sizes _ c.in-Ok.ensures
 
 pub returns : goal.returns
-returns c = refused_or_other (within c.args.d c.args.c c.args.t) _ _ _ c.in-default.field-0 c.in-default.ensures
+returns c = refused_or_other (within c.args.d c.args.c c.args.t) _ _ _ c.in_default.field-0 c.in_default.ensures

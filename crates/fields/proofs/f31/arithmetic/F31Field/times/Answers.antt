@@ -3,11 +3,11 @@ use Rattle.fields.specs.F31.{f31-same}
 use Rattle.fields.proofs.Reduction.{product_bound, folded_bound, folded}
 use Rattle.fields.proofs.f31.arithmetic.F31Field.times.Goals as goal
 
-pub overflow-cast-product-4 : goal.overflow-cast-product-4
-overflow-cast-product-4 c = omega (arith, product_bound _ _ c.args.self.ok c.args.other.ok)
+pub overflow_cast-product-4 : goal.overflow_cast-product-4
+overflow_cast-product-4 c = omega (arith, product_bound _ _ c.args.self.ok c.args.other.ok)
 
-pub overflow-add-product : goal.overflow-add-product
-overflow-add-product c = omega (arith, folded_bound _ _ c.args.self.ok c.args.other.ok)
+pub overflow_add-product : goal.overflow_add-product
+overflow_add-product c = omega (arith, folded_bound _ _ c.args.self.ok c.args.other.ok)
 
 pub element-requires : goal.element-requires
 element-requires c = folded_bound _ _ c.args.self.ok c.args.other.ok

@@ -1,5 +1,5 @@
 -- Sums over the numbers below a bound.
-use Rattle.std.proofs.Common.{◌≡◌, ℕ, zero, suc, ◌+◌, ◌*◌, ◌<◌, cond, eqb, sym, refl, ap, ◌∙◌, ap₂, suc-mul, zero-mul as ℕ·zero-mul, arith, eq-eqb, ne_eqb}
+use Rattle.std.proofs.Common.{◌≡◌, ℕ, zero, suc, ◌+◌, ◌*◌, ◌<◌, cond, eqb, sym, refl, ap, ◌∙◌, ap₂, suc-mul, zero-mul as nat_zero-mul, arith, eq-eqb, ne_eqb}
 use native.Mathlib.Decide.{ℕ_discrete}
 use Rattle.fields.specs.Fields.{FieldOf}
 use Rattle.fields.specs.Laws.Derived.{zero-add}
@@ -36,7 +36,7 @@ module _ {F : Type 0} (f : FieldOf F) where
 
   -- rows of m, one after another
   pub below_rows : (n m : ℕ) (g : ℕ → F) → sum_below f (n * m) g ≡ sum_below f n (λ a. sum_below f m (λ j. g (a * m + j)))
-  below_rows zero m g = ap (λ (z : ℕ). sum_below f z g) (ℕ·zero-mul m)
+  below_rows zero m g = ap (λ (z : ℕ). sum_below f z g) (nat_zero-mul m)
   below_rows (suc n) m g =
       ap (λ (z : ℕ). sum_below f z g) (suc-mul n m)
       ∙ below-add (n * m) m g

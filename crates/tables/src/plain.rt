@@ -1,5 +1,5 @@
 // The plain list: a table read where the caller has it.
-ghost use Rattle.std.specs.Prelude.{◌≡◌, true, length, ⊤};
+ghost use Rattle.std.specs.Prelude.{◌≡◌, true, length};
 ghost use Rattle.tables.specs.Tables.{is_table};
 ghost use Rattle.tables.specs.Kinds.{plain_table, plain_answer};
 
@@ -7,22 +7,10 @@ use crate::formulas::{extension_joined, fits, power_of_two, variables_of};
 use crate::table::{Committed, Listed};
 use fields::field::Field;
 use fields::refusal::Refusal;
-use std::alloc::AllocError;
 
+#[derive_where(Clone, Copy)]
 pub struct PlainList<'a, F> {
     items: &'a [F],
-}
-
-impl<'a, F> Copy for PlainList<'a, F> {}
-
-impl<'a, F> Clone for PlainList<'a, F> {
-    ghost is_clone = { λ list copy. copy.items.now ≡ list.items.now };
-
-    ghost is_infallible = { λ _. ⊤ };
-
-    fn clone(&self) -> Result<PlainList<'a, F>, AllocError> {
-        Ok(*self)
-    }
 }
 
 impl<'a, F: Field> PlainList<'a, F> {

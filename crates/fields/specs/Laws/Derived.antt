@@ -1,6 +1,6 @@
 -- Laws that follow from those of a field.
 use Rattle.std.specs.Prelude.{◌≡◌, ℕ, suc, ◌+◌, ◌*◌}
-use Rattle.std.proofs.Common.{sym, ap, ◌∙◌, add-suc, mul-suc, add-zero as ℕ·add-zero, mul-zero as ℕ·mul-zero}
+use Rattle.std.proofs.Common.{sym, ap, ◌∙◌, add-suc, mul-suc, add-zero as nat_add-zero, mul-zero as nat_mul-zero}
 use Rattle.fields.specs.Fields.{FieldOf, less, ones}
 
 module _ {F : Type 0} (f : FieldOf F) where
@@ -41,11 +41,11 @@ module _ {F : Type 0} (f : FieldOf F) where
   equal_of_less a b h = add_cancel a b (neg b) (h ∙ sym (add-neg b))
 
   pub ones-add : (m n : ℕ) → ones f (m + n) ≡ add (ones f m) (ones f n)
-  ones-add m ℕ.zero = ap (ones f) (ℕ·add-zero m) ∙ sym (add-zero (ones f m))
+  ones-add m ℕ.zero = ap (ones f) (nat_add-zero m) ∙ sym (add-zero (ones f m))
   ones-add m (suc n) = ap (ones f) (add-suc m n) ∙ ap (λ x. add x one) (ones-add m n) ∙ add_assoc (ones f m) (ones f n) one
 
   pub ones-mul : (m n : ℕ) → ones f (m * n) ≡ mul (ones f m) (ones f n)
-  ones-mul m ℕ.zero = ap (ones f) (ℕ·mul-zero m) ∙ sym (mul-zero (ones f m))
+  ones-mul m ℕ.zero = ap (ones f) (nat_mul-zero m) ∙ sym (mul-zero (ones f m))
   ones-mul m (suc n) =
       ap (ones f) (mul-suc m n)
       ∙ ones-add (m * n) m

@@ -1,6 +1,6 @@
 -- Pairs of elements of a field, multiplied as complex numbers: a field where two squares add up to zero only if both are zero.
 use Rattle.std.specs.Prelude.{◌≡◌, ℕ, zero, suc, ◌+◌, ◌*◌, ◌/◌, ◌%◌, ◌<◌, ◌≤◌, ◌⊎◌, ◌≢◌}
-use Rattle.std.proofs.Common.{sym, ap, ap₂, ◌∙◌, inl, inr, add-mul, zero-mul as ℕ·zero-mul, mul-le-mul_right, div-lt_iff_lt-mul, mod-eq_of_lt, mod-lt, arith}
+use Rattle.std.proofs.Common.{sym, ap, ap₂, ◌∙◌, inl, inr, add-mul, zero-mul as nat_zero-mul, mul-le-mul_right, div-lt_iff_lt-mul, mod-eq_of_lt, mod-lt, arith}
 use Rattle.std.proofs.Math.Nat.{mod-add-div', add-mul-mod_self_right, add-mul-div_right, div-eq_of_lt}
 use Rattle.fields.specs.Fields.{FieldOf, less, ones_of, most_ones}
 use Rattle.fields.specs.Laws.Squares.{SquaresApart}
@@ -79,7 +79,7 @@ module _ {F C : Type 0} (f : FieldOf F) (c : Pairs C F) where
   real_meaning : (a : F) → pair_meaning (pair a f.zero) ≡ meaning a
   real_meaning a =
       meaning-pair a f.zero
-      ∙ ap (λ (n : ℕ). meaning a + n) (ap (λ (n : ℕ). n * order) f.meaning-zero ∙ ℕ·zero-mul order)
+      ∙ ap (λ (n : ℕ). meaning a + n) (ap (λ (n : ℕ). n * order) f.meaning-zero ∙ nat_zero-mul order)
       ∙ omega arith
 
   pub pair_meaning-zero : pair_meaning pair_zero ≡ 0

@@ -3,7 +3,8 @@ use Rattle.std.specs.Prelude.{◌≡◌, refl}
 use Rattle.std.proofs.Common.{lit<}
 use Rattle.fields.specs.Fields.{FieldOf}
 use Rattle.fields.specs.Laws.Primes.{Prime, prime_by_trial, none_divides}
-use Rattle.fields.specs.Laws.Residues.{Residues, below_path, residue_field}
+use Rattle.fields.specs.Laws.Residues.{Residues, below_path, residue_field, residue_squares_apart}
+use Rattle.fields.specs.Laws.Squares.{SquaresApart}
 use Rattle.fields.specs.declared.f31.F31.{F31}
 
 -- by trial division: none of the 65536 numbers from 2 on divides it, and they pass its root
@@ -22,3 +23,7 @@ f31_residues = record { value = λ a. a.value; below = λ a. a.ok; make = λ n h
 -- sums, products and negatives of the values, modulo 2147483647
 abbrev pub f31_field : FieldOf F31
 f31_field = residue_field f31_residues f31_prime (lit< tt)
+
+-- minus one is not a square in F31, since 2147483647 is 3 modulo 4
+pub f31_squares_apart : SquaresApart f31_field
+f31_squares_apart = residue_squares_apart f31_residues f31_prime (lit< tt) refl

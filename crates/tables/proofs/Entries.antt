@@ -7,16 +7,16 @@ use Rattle.tables.specs.Formulas.{extension}
 use Rattle.tables.specs.Tables.{tabulate, table_of, entry, opened, entry_answer, variables_in, on_table}
 use Rattle.tables.proofs.Extension.{ext_cong}
 
-pub get_d_tabulate : {A : Type 0} (n i : ℕ) (g : ℕ → A) (d : A) → i < n → get_or (tabulate n g) i d ≡ g i
-get_d_tabulate n i g d h = get_or-map-range_with_len g 0 n i i d h (omega arith)
+pub get_or-tabulate : {A : Type 0} (n i : ℕ) (g : ℕ → A) (d : A) → i < n → get_or (tabulate n g) i d ≡ g i
+get_or-tabulate n i g d h = get_or-map-range_with_len g 0 n i i d h (omega arith)
 
 module _ {F : Type 0} (f : FieldOf F) (n : ℕ) (few : n ≤ most_variables) (g : ℕ → F) where
   pub opens : (p : List F) (v : F) → true ≡ eqb (length p) n → v ≡ extension f (elements f) n g p → Ok v ≡ opened f (table_of n few g) p
   opens p v h e =
-      let same = ext_cong f n (entry f (tabulate (2 ^ n) g)) g p (λ i k. get_d_tabulate (2 ^ n) i g f.zero k) in rw (sym h) (ap Ok (e ∙ sym same))
+      let same = ext_cong f n (entry f (tabulate (2 ^ n) g)) g p (λ i k. get_or-tabulate (2 ^ n) i g f.zero k) in rw (sym h) (ap Ok (e ∙ sym same))
 
   pub gives : (i : ℕ) (v : F) → i < 2 ^ n → v ≡ g i → Ok v ≡ entry_answer f (table_of n few g) i
-  gives i v h e = rw (lt-ltb i (2 ^ n) h) (ap Ok (e ∙ sym (get_d_tabulate (2 ^ n) i g f.zero h)))
+  gives i v h e = rw (lt-ltb i (2 ^ n) h) (ap Ok (e ∙ sym (get_or-tabulate (2 ^ n) i g f.zero h)))
 
 -- the list is a table, and the point fits it
 pub on_fitting_table : {F : Type 0} (f : FieldOf F) (es p : List F) (v : F) → length es ≡ 2 ^ variables_in (length es)

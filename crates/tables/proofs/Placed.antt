@@ -7,7 +7,7 @@ use Rattle.std.proofs.lemmas.Slice.{drop-append-drop}
 use Rattle.std.proofs.lemmas.List.FromFn.{length-map-range_with_len, map-range_with_len_more, fill_by_all}
 use Rattle.tables.specs.Tables.{tabulate}
 use Rattle.tables.specs.Maker.{placed}
-use Rattle.tables.proofs.Entries.{get_d_tabulate}
+use Rattle.tables.proofs.Entries.{get_or-tabulate}
 
 pub length-tabulate : {A : Type 0} (n : ℕ) (g : ℕ → A) → length (tabulate n g) ≡ n
 length-tabulate n g = length-map-range_with_len g 0 n
@@ -18,7 +18,7 @@ module _ {A : Type 0} (g : ℕ → A) (old : List A) where
 
   pub get_or-placed : (n i : ℕ) (d : A) → i < n → get_or (placed n g old) i d ≡ g i
   get_or-placed n i d h =
-      get_or-append (tabulate n g) (drop n old) d i (omega (arith, length-tabulate n g)) ∙ get_d_tabulate n i g d h
+      get_or-append (tabulate n g) (drop n old) d i (omega (arith, length-tabulate n g)) ∙ get_or-tabulate n i g d h
 
   pub take-placed : (n : ℕ) → take n (placed n g old) ≡ tabulate n g
   take-placed n = take_at (tabulate n g) (drop n old) n (length-tabulate n g)
@@ -40,12 +40,12 @@ placed-set g h old n i v below here others =
     at : (k : ℕ) → k < n → get_or (set (tabulate n g) i v) k v ≡ h k
     at k b = elim (ℕ_discrete k i) [
       | yes e ↦ ap (λ (z : ℕ). get_or (set (tabulate n g) i v) z v) e ∙ get_or-set_same (tabulate n g) i v v (omega (arith, length-tabulate n g)) ∙ sym here ∙ ap h (sym e)
-      | no e ↦ get_or-set_other (tabulate n g) i k v v e ∙ get_d_tabulate n k g v b ∙ sym (others k b e)
+      | no e ↦ get_or-set_other (tabulate n g) i k v v e ∙ get_or-tabulate n k g v b ∙ sym (others k b e)
     ]
 
 pub placed_cong : {A : Type 0} (g h : ℕ → A) (old : List A) (n : ℕ) → A → ((k : ℕ) → k < n → g k ≡ h k) → placed n g old ≡ placed n h old
 placed_cong g h old n d e =
-    ap (λ z. z ++ drop n old) (fill_by_all h (tabulate n g) n d (length-tabulate n g) (λ k b. get_d_tabulate n k g d b ∙ e k b))
+    ap (λ z. z ++ drop n old) (fill_by_all h (tabulate n g) n d (length-tabulate n g) (λ k b. get_or-tabulate n k g d b ∙ e k b))
 
 -- what was placed before is written over
 pub placed-placed : {A : Type 0} (g h : ℕ → A) (old : List A) (n m : ℕ) → m ≤ length old → m ≤ n → placed n g (placed m h old) ≡ placed n g old

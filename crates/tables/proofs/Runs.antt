@@ -14,7 +14,7 @@ use Rattle.tables.specs.Run.{cell, Addressed}
 use Rattle.tables.specs.Maker.{placed, has_room, addressed_below, operations_answer, Room, Fitting, operation, read_at, write_at, value_at, held_at, rv_at, increment_at, inc_at, one_hots, RunOf}
 use Rattle.tables.specs.declared.size.Sizes.{Sizes}
 use Rattle.tables.specs.declared.maker.Operation.{Operation}
-use Rattle.tables.proofs.Entries.{get_d_tabulate}
+use Rattle.tables.proofs.Entries.{get_or-tabulate}
 use Rattle.tables.proofs.Placed.{take-placed}
 use Rattle.tables.proofs.Cells.{cell_cong}
 
@@ -73,10 +73,10 @@ module _ {F : Type 0} (f : FieldOf F) (s : Sizes) where
         let T = cycle_count s in
         let addresses = tabulate T at in
         let inside = digits_lt ha hj in
-        ap (λ (z : List F). entry f z (a * T + j)) (get_d_tabulate s.d i (λ i. (one_hot_table f s (suc i) addresses).entries) [] hi)
-        ∙ get_d_tabulate (2 ^ (s.c + s.t)) (a * T + j) (one_hot_entry f s (suc i) addresses) f.zero (omega (arith, pow-add 2 s.c s.t))
+        ap (λ (z : List F). entry f z (a * T + j)) (get_or-tabulate s.d i (λ i. (one_hot_table f s (suc i) addresses).entries) [] hi)
+        ∙ get_or-tabulate (2 ^ (s.c + s.t)) (a * T + j) (one_hot_entry f s (suc i) addresses) f.zero (omega (arith, pow-add 2 s.c s.t))
         ∙ ap₂ (λ (r q : ℕ). cond (eqb (chunk s (suc i) (get_or addresses r 0)) q) f.one f.zero) (digits_mod a hj) (digits_div a hj)
-        ∙ ap (λ (z : ℕ). cond (eqb (chunk s (suc i) z) a) f.one f.zero) (get_d_tabulate T j at 0 hj);
+        ∙ ap (λ (z : ℕ). cond (eqb (chunk s (suc i) z) a) f.one f.zero) (get_or-tabulate T j at 0 hj);
   }
 
   module _ (ops : List (Operation F)) (fit : Fitting s ops) where
@@ -93,7 +93,7 @@ module _ {F : Type 0} (f : FieldOf F) (s : Sizes) where
     held_is : (a j : ℕ) → j < cycle_count s → held_at f ops a j ≡ cell f (write_at f ops) (entry f (tabulate (cycle_count s) (value_at f ops))) a j
     held_is a j h =
         cell_cong f (write_at f ops) (write_at f ops) (value_at f ops) (entry f (tabulate (cycle_count s) (value_at f ops))) a j (λ i b. refl)
-        (λ i b. sym (get_d_tabulate (cycle_count s) i (value_at f ops) f.zero (omega arith)))
+        (λ i b. sym (get_or-tabulate (cycle_count s) i (value_at f ops) f.zero (omega arith)))
 
     tabulated_run : RunOf f s ops (tabulate (cycle_count s) (read_at f ops)) (tabulate (cycle_count s) (write_at f ops))
         (tabulate (cycle_count s) (rv_at f ops)) (tabulate (cycle_count s) (value_at f ops)) (tabulate (cell_count s * cycle_count s) (inc_at f s ops))
@@ -103,15 +103,15 @@ module _ {F : Type 0} (f : FieldOf F) (s : Sizes) where
         writes = write_at f ops;
         reads_addressed = hots_addressed (read_at f ops) (λ j h. ranged (λ o. o.read) refl fit.reads_below j);
         writes_addressed = hots_addressed (write_at f ops) (λ j h. ranged (λ o. o.write) refl fit.writes_below j);
-        gives = λ j h. get_d_tabulate (cycle_count s) j (rv_at f ops) f.zero h ∙ held_is (read_at f ops j) j h;
+        gives = λ j h. get_or-tabulate (cycle_count s) j (rv_at f ops) f.zero h ∙ held_is (read_at f ops j) j h;
         increments = λ a j ha hj.
-            get_d_tabulate (cell_count s * cycle_count s) (a * cycle_count s + j) (inc_at f s ops) f.zero (digits_lt ha hj)
+            get_or-tabulate (cell_count s * cycle_count s) (a * cycle_count s + j) (inc_at f s ops) f.zero (digits_lt ha hj)
             ∙ ap₂ (increment_at f ops) (digits_div a hj) (digits_mod a hj)
-            ∙ ap₂ (λ x y. cond (eqb a (write_at f ops j)) (less f x y) f.zero) (sym (get_d_tabulate (cycle_count s) j (value_at f ops) f.zero hj)) (held_is a j hj);
+            ∙ ap₂ (λ x y. cond (eqb a (write_at f ops j)) (less f x y) f.zero) (sym (get_or-tabulate (cycle_count s) j (value_at f ops) f.zero hj)) (held_is a j hj);
       };
       reads_given = λ j h. refl;
       writes_given = λ j h. refl;
-      values_given = λ j h. get_d_tabulate (cycle_count s) j (value_at f ops) f.zero h;
+      values_given = λ j h. get_or-tabulate (cycle_count s) j (value_at f ops) f.zero h;
     }
 
     pub placed_run : (reads₀ writes₀ : List ℕ) (rv₀ wv₀ inc₀ : List F) (reads writes : List ℕ) (rv wv inc : List F)

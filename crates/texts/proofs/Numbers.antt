@@ -66,9 +66,9 @@ get_or_end : (ds : List ℕ) (e : ℕ) (rest : List ℕ) → get_or (ds ++ (e �
 get_or_end [] e rest = refl
 get_or_end (c ∷ ds) e rest = get_or_end ds e rest
 
-get_d_front : (ds xs : List ℕ) → 0 < length ds → get_or (ds ++ xs) 0 0 ≡ get_or ds 0 0
-get_d_front [] xs h = absurd (omega arith)
-get_d_front (c ∷ ds) xs h = refl
+get_or_front : (ds xs : List ℕ) → 0 < length ds → get_or (ds ++ xs) 0 0 ≡ get_or ds 0 0
+get_or_front [] xs h = absurd (omega arith)
+get_or_front (c ∷ ds) xs h = refl
 
 -- what the bytes are if they begin with a short number and the byte `end`, where `count` is how many digits they begin with
 pub record Formed (bytes : List ℕ) (count end : ℕ) : Type 0 where
@@ -86,7 +86,7 @@ formed n count end bytes rest is k small e =
       few = length-decimal-le 4 n (lit< tt) small big;
       within = omega (arith, ap length e, length-append (decimal n) (end ∷ rest));
       ended = ap (λ bs. get_or bs (length (decimal n)) 0) e ∙ get_or_end (decimal n) end rest;
-      no_zero = λ more zero_first. first n big more (sym (ap (λ bs. get_or bs 0 0) e ∙ get_d_front (decimal n) (end ∷ rest) (decimal_nonempty n big)) ∙ zero_first);
+      no_zero = λ more zero_first. first n big more (sym (ap (λ bs. get_or bs 0 0) e ∙ get_or_front (decimal n) (end ∷ rest) (decimal_nonempty n big)) ∙ zero_first);
     })
   where
     big : n < 2 ^ 64

@@ -16,7 +16,7 @@ pub trait Field: Copy {
     // The operations on elements, what elements mean, and the laws.
     ghost field: { FieldOf Self };
 
-    // The three constants, with their promises: a constant carries none in generic code.
+    // The three constants as calls, with their promises.
     fn field_order() -> u64
         ensures { result ≡ field.order };
 

@@ -26,12 +26,12 @@ pub enum Refusal {
     MalformedLine,
 }
 
-impl Refusal {
-    // The number by which the refusal is known.
-    pub fn number(self) -> u8
-        ensures { result ≡ (reported self).number }
-    {
-        match self {
+// The number by which the refusal is known.
+impl From<Refusal> for u8 {
+    ghost from_gives = { λ refusal number. number ≡ (reported refusal).number };
+
+    fn from(refusal: Refusal) -> u8 {
+        match refusal {
             Refusal::NotBelowOrder => 1,
             Refusal::OutsideLimits => 2,
             Refusal::TooShort => 3,

@@ -267,7 +267,7 @@ mod tests {
     fn is_refused(answer: Result<F31, Refusal>, number: u8) -> bool {
         match answer {
             Ok(_) => false,
-            Err(refusal) => refusal.number() == number,
+            Err(refusal) => u8::from(refusal) == number,
         }
     }
 

@@ -83,7 +83,7 @@ pub fn plan_text(heap: Global, plan: Plan) -> Result<String, AllocError>
 pub fn refusal_text(heap: Global, refusal: Refusal) -> Result<String, AllocError>
     ensures { IfOk result (λ s. string_bytes s ≡ refusal_text refusal) }
 {
-    let number = refusal.number();
+    let number = u8::from(refusal);
     format!(in heap; "refused\t{number}\n")
 }
 

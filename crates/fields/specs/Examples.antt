@@ -1,12 +1,10 @@
 -- Worked examples of the three fields.
 use Rattle.std.specs.Prelude.{◌≡◌, ℕ, Ok, Err}
 use Rattle.fields.specs.Fields.{element_for}
-use Rattle.fields.specs.F31.{f31_field}
-use Rattle.fields.specs.F257.{f257_field}
+use Rattle.fields.specs.F31.{F31, f31_field}
+use Rattle.fields.specs.F257.{F257, f257_field}
 use Rattle.fields.specs.P31.{p31_pairs}
 use Rattle.fields.specs.Laws.Pairs.{pair_product}
-use Rattle.fields.specs.declared.f31.F31.{F31}
-use Rattle.fields.specs.declared.f257.F257.{F257}
 use Rattle.fields.specs.declared.p31.P31.{P31}
 use Rattle.fields.specs.declared.refusal.Refusal.TheVariants.{NotBelowOrder}
 

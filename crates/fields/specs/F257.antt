@@ -1,24 +1,31 @@
 -- F257: arithmetic modulo 257.
-use Rattle.std.specs.Prelude.{◌≡◌, refl}
+use Rattle.std.specs.Prelude.{◌≡◌}
 use Rattle.std.proofs.Common.{lit<}
 use Rattle.fields.specs.Fields.{FieldOf}
+use Rattle.fields.specs.Residues.{FieldModulus, field_modulo, residues_modulo, residue-same}
 use Rattle.fields.specs.Laws.Primes.{Prime, prime_by_trial, none_divides}
-use Rattle.fields.specs.Laws.Residues.{Residues, below_path, residue_field}
-use Rattle.fields.specs.declared.f257.F257.{F257}
+use Rattle.fields.specs.Laws.Residues.{Residues}
+use Rattle.fields.specs.declared.residue.Residue.{Residue}
+
+abbrev pub F257 : Type 0
+F257 = Residue 257
 
 -- by trial division: none of the 16 numbers from 2 on divides it, and they pass its root
 pub f257_prime : Prime 257
 unfolding none_divides
 f257_prime = prime_by_trial _ 4 tt tt tt
 
+abbrev pub f257_modulus : FieldModulus 257
+f257_modulus = record { prime = f257_prime; long = lit< tt; short = lit< tt }
+
 -- elements of one value are equal: the stored form is canonical
 pub f257-same : (a b : F257) → a.value ≡ b.value → a ≡ b
-f257-same a b e = λ i. record { value = e i; ok = below_path e a.ok b.ok i }
+f257-same = residue-same 257
 
 -- an element means its value
 abbrev pub f257_residues : Residues F257 257
-f257_residues = record { value = λ a. a.value; below = λ a. a.ok; make = λ n h. record { value = n; ok = h }; value_make = λ n h. refl; same = f257-same }
+f257_residues = residues_modulo 257
 
 -- sums, products and negatives of the values, modulo 257
 abbrev pub f257_field : FieldOf F257
-f257_field = residue_field f257_residues f257_prime (lit< tt)
+f257_field = field_modulo 257 f257_modulus

@@ -1,6 +1,7 @@
 pub mod Refusals
 pub mod Fields
 pub mod Laws
+pub mod Residues
 pub mod F31
 pub mod PowerTables
 pub mod F257

@@ -2,10 +2,9 @@
 use Rattle.std.specs.Prelude.{refl}
 use Rattle.std.proofs.Common.{lit<}
 use Rattle.fields.specs.Fields.{FieldOf}
-use Rattle.fields.specs.F31.{f31_field, f31_residues, f31_prime}
+use Rattle.fields.specs.F31.{F31, f31_field, f31_residues, f31_prime}
 use Rattle.fields.specs.Laws.Residues.{residue_squares_apart}
 use Rattle.fields.specs.Laws.Pairs.{Pairs, pair_field}
-use Rattle.fields.specs.declared.f31.F31.{F31}
 use Rattle.fields.specs.declared.p31.P31.{P31}
 
 -- an element is the pair of its parts

@@ -1,13 +1,45 @@
-// The field of the residues modulo 257.
-ghost use Rattle.std.specs.Prelude.{◌<◌};
+// The field of the residues modulo 257. Products go through the powers of 3: the exponents are added.
+ghost use Rattle.std.specs.Prelude.{◌≡◌, ◌%◌, ◌^◌, ◌<◌};
+ghost use Rattle.fields.specs.F257.{f257_modulus};
 
-mod arithmetic;
+use crate::f257::exponents::exponents;
+use crate::f257::powers::powers;
+use crate::residue::Residue;
+use crate::residue::arithmetic::ModuloPrime;
+
 mod exponents;
 mod powers;
 
-// A number below the order; only this module and those below it make one.
-#[derive(Clone, Copy, PartialEq, Eq, Debug)]
-pub struct F257 {
-    value: u16,
-    ghost ok: { value < 257 },
+const MODULUS: u32 = 257;
+
+pub type F257 = Residue<MODULUS>;
+
+// The power of 3 with an exponent.
+fn power(exponent: usize) -> u32
+    requires { exponent < 256 }
+    ensures { result ≡ 3 ^ exponent % 257 }
+{
+    powers()[exponent] as u32
+}
+
+// The exponent below 256 with which 3 gives a number.
+fn exponent(number: u32) -> usize
+    requires positive { 0 < number }
+    requires below { number < 257 }
+    ensures below { result < 256 }
+    ensures power { 3 ^ result % 257 ≡ number }
+{
+    exponents()[number as usize] as usize
+}
+
+impl ModuloPrime<MODULUS> for F257 {
+    ghost modulus = { f257_modulus };
+
+    // Zero is no power of 3, and is handled apart.
+    fn product(a: u32, b: u32) -> u32 {
+        if a == 0 || b == 0 {
+            return 0;
+        }
+        power((exponent(a) + exponent(b)) % 256)
+    }
 }

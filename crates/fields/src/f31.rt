@@ -1,17 +1,30 @@
 // The field of the residues modulo 2147483647.
-ghost use Rattle.std.specs.Prelude.{◌<◌};
+ghost use Rattle.fields.specs.F31.{f31_modulus};
 
-mod arithmetic;
+use crate::residue::Residue;
+use crate::residue::arithmetic::{ModuloPrime, reduced};
 
 pub(crate) const MODULUS: u32 = 2147483647;
 
+pub type F31 = Residue<MODULUS>;
+
+// For the constants of P31, whose values may not name a constant of a generic impl.
 pub(crate) const ZERO: F31 = F31 { value: 0 };
 
 pub(crate) const ONE: F31 = F31 { value: 1 };
 
-// A number below the order; only this module and those below it make one.
-#[derive(Clone, Copy, PartialEq, Eq, Debug)]
-pub struct F31 {
-    value: u32,
-    ghost ok: { value < 2147483647 },
+// The bits below 31.
+const LOW_BITS: u64 = 2147483647;
+
+impl ModuloPrime<MODULUS> for F31 {
+    ghost modulus = { f31_modulus };
+
+    // The bits from 31 on are added to those below, since 2^31 leaves 1.
+    fn product(a: u32, b: u32) -> u32 {
+        let product = a as u64 * b as u64;
+        reduced(
+            (product & LOW_BITS) as u32 + (product >> 31) as u32,
+            MODULUS,
+        )
+    }
 }

@@ -1,30 +1,45 @@
 // A field, as the tables and both ends of the protocol use it.
-ghost use Rattle.std.specs.Prelude.{◌≡◌, ◌^◌, ◌≤◌, ◌==◌};
+ghost use Rattle.std.specs.Prelude.{ℕ, ◌≡◌, ◌^◌, ◌≤◌, ◌==◌};
 ghost use prog.Memory.{size};
 ghost use denote.Param.{layout};
 ghost use Rattle.fields.specs.Fields.{FieldOf, element_for};
 
 use crate::refusal::Refusal;
 
-pub trait Field: Copy {
+pub trait Field: Copy + Eq {
+    // The operations on elements, what elements mean, and the laws.
+    ghost field: { FieldOf Self };
+
     const ORDER: u64;
 
     const ZERO: Self;
 
     const ONE: Self;
 
-    // The operations on elements, what elements mean, and the laws.
-    ghost field: { FieldOf Self };
+    ghost ORDER: { ℕ };
+
+    ghost ZERO: { Self };
+
+    ghost ONE: { Self };
 
     // The three constants as calls, with their promises.
     fn field_order() -> u64
-        ensures { result ≡ field.order };
+        ensures { result ≡ field.order }
+    {
+        Self::ORDER
+    }
 
     fn zero_element() -> Self
-        ensures { result ≡ field.zero };
+        ensures { result ≡ field.zero }
+    {
+        Self::ZERO
+    }
 
     fn one_element() -> Self
-        ensures { result ≡ field.one };
+        ensures { result ≡ field.one }
+    {
+        Self::ONE
+    }
 
     // The element that means `number`, which has to be below the order.
     fn from_number(number: u64) -> Result<Self, Refusal>
@@ -46,8 +61,15 @@ pub trait Field: Copy {
     fn negated(self) -> Self
         ensures { result ≡ field.neg self };
 
-    fn equals(self, other: Self) -> bool
-        ensures { result ≡ (field.meaning self == field.meaning other) };
+    // The constants are what the field says.
+    ghost order_holds: { ORDER ≡ field.order };
+
+    ghost zero_holds: { ZERO ≡ field.zero };
+
+    ghost one_holds: { ONE ≡ field.one };
+
+    // Elements are equal where they mean the same number.
+    ghost equality: { (a b : Self) → Self.eq a b ≡ (field.meaning a == field.meaning b) };
 
     // An element takes few bytes, so that the coordinates of a point fit in memory.
     ghost small: { size (layout Self.row) ≤ 2 ^ 32 };

@@ -1,7 +1,9 @@
 -- Pairs of elements of a field, multiplied as complex numbers: a field where two squares add up to zero only if both are zero.
-use Rattle.std.specs.Prelude.{◌≡◌, ℕ, zero, suc, ◌+◌, ◌*◌, ◌/◌, ◌%◌, ◌<◌, ◌≤◌, ◌⊎◌, ◌≢◌}
+use Rattle.std.specs.Prelude.{◌≡◌, ℕ, zero, suc, ◌+◌, ◌*◌, ◌/◌, ◌%◌, ◌<◌, ◌≤◌, ◌⊎◌, ◌≢◌, ◌==◌, ◌&&◌}
 use Rattle.std.proofs.Common.{sym, ap, ap₂, ◌∙◌, inl, inr, add-mul, zero-mul as nat_zero-mul, mul-le-mul_right, div-lt_iff_lt-mul, mod-eq_of_lt, mod-lt, arith}
 use Rattle.std.proofs.Math.Nat.{mod-add-div', add-mul-mod_self_right, add-mul-div_right, div-eq_of_lt}
+use Rattle.std.proofs.lemmas.Bool.{and_parts, eqb-true, eq-eqb}
+use Rattle.std.specs.Cmp.Derive.{one_truth, both_true}
 use Rattle.fields.specs.Fields.{FieldOf, less, ones_of, most_ones}
 use Rattle.fields.specs.Laws.Squares.{SquaresApart}
 use Rattle.fields.specs.Laws.Solve.{con, ◌⊕◌, ◌⊖◌, ◌⊗◌, ◌≐◌, solve2, solve4, solve6}
@@ -66,6 +68,19 @@ module _ {F C : Type 0} (f : FieldOf F) (c : Pairs C F) where
       same x y
       (f.meaning_injective (re x) (re y) (sym (meaning-mod x) ∙ ap (λ (n : ℕ). n % order) e ∙ meaning-mod y))
       (f.meaning_injective (im x) (im y) (sym (meaning-div x) ∙ ap (λ (n : ℕ). n / order) e ∙ meaning-div y))
+
+  -- pairs mean one number where their parts do
+  pub pair_equality : (x y : C) → ((meaning (re x) == meaning (re y)) && (meaning (im x) == meaning (im y))) ≡ (pair_meaning x == pair_meaning y)
+  pair_equality x y =
+      one_truth _ _
+      (λ h.
+      let parts = and_parts _ _ h in
+      eq-eqb _ _ (ap₂ (λ (a b : ℕ). a + b * order) (eqb-true _ _ parts.0) (eqb-true _ _ parts.1)))
+      (λ h.
+      let e = eqb-true _ _ h in
+      both_true
+      (eq-eqb _ _ (sym (meaning-mod x) ∙ ap (λ (n : ℕ). n % order) e ∙ meaning-mod y))
+      (eq-eqb _ _ (sym (meaning-div x) ∙ ap (λ (n : ℕ). n / order) e ∙ meaning-div y)))
 
   meaning-pair : (a b : F) → pair_meaning (pair a b) ≡ meaning a + meaning b * order
   meaning-pair a b = ap₂ (λ (x y : F). meaning x + meaning y * order) (re-pair a b) (im-pair a b)

@@ -1,6 +1,8 @@
 // Sums by parts; a product is four products of the parts.
-ghost use Rattle.fields.specs.P31.{p31_field};
-ghost use Rattle.std.specs.Prelude.{Some, decimal};
+ghost use Rattle.fields.specs.P31.{p31_pairs, p31_field};
+ghost use Rattle.std.specs.Prelude.{Some, decimal, refl};
+ghost use Rattle.fields.specs.F31.{f31_field};
+ghost use Rattle.fields.specs.Laws.Pairs.{pair_equality};
 ghost use Rattle.std.proofs.Common.{rules};
 
 use crate::f31;
@@ -25,19 +27,21 @@ impl Field for P31 {
 
     ghost field = { p31_field };
 
+    ghost ORDER = { p31_field.order };
+
+    ghost ZERO = { p31_field.zero };
+
+    ghost ONE = { p31_field.one };
+
+    ghost order_holds = { refl };
+
+    ghost zero_holds = { refl };
+
+    ghost one_holds = { refl };
+
+    ghost equality = { pair_equality f31_field p31_pairs };
+
     ghost small = { Prim.search rules };
-
-    fn field_order() -> u64 {
-        Self::ORDER
-    }
-
-    fn zero_element() -> P31 {
-        Self::ZERO
-    }
-
-    fn one_element() -> P31 {
-        Self::ONE
-    }
 
     // The remainder and the quotient by the order of F31.
     fn from_number(number: u64) -> Result<P31, Refusal> {
@@ -77,10 +81,6 @@ impl Field for P31 {
             re: self.re.negated(),
             im: self.im.negated(),
         }
-    }
-
-    fn equals(self, other: P31) -> bool {
-        self.re.equals(other.re) && self.im.equals(other.im)
     }
 }
 

@@ -1,6 +1,6 @@
 use Rattle.std.proofs.Common.{rules}
 use Rattle.fields.proofs.Tables.{exponent_at}
-use Rattle.fields.proofs.f257.arithmetic.exponent.Goals as goal
+use Rattle.fields.proofs.f257.exponent.Goals as goal
 
 pub returns : goal.returns
 returns c =

@@ -1,7 +1,6 @@
 -- Worked examples of the fields, the tables and the messages of a job, as one theorem.
 use Rattle.std.specs.Prelude.{◌≡◌, ℕ, List, [], ◌∷◌, map, Some, None, Option}
-use Rattle.fields.specs.F31.{f31_field}
-use Rattle.fields.specs.declared.f31.F31.{F31}
+use Rattle.fields.specs.F31.{F31, f31_field}
 use Rattle.tables.specs.Examples.{TableExamples}
 use Rattle.stages.specs.declared.plan.Kind.TheVariants.{Shout}
 use Rattle.stages.specs.declared.plan.Plan.{Plan}

@@ -1,11 +1,9 @@
 -- Worked examples of the fields, the formulas and a run, as one theorem.
 use Rattle.std.specs.Prelude.{◌≡◌, ℕ, ◌*◌, List, [], ◌∷◌, map, Ok, Result}
 use Rattle.fields.specs.Fields.{elements}
-use Rattle.fields.specs.F31.{f31_field}
-use Rattle.fields.specs.F257.{f257_field}
+use Rattle.fields.specs.F31.{F31, f31_field}
+use Rattle.fields.specs.F257.{F257, f257_field}
 use Rattle.fields.specs.Examples.{FieldExamples}
-use Rattle.fields.specs.declared.f31.F31.{F31}
-use Rattle.fields.specs.declared.f257.F257.{F257}
 use Rattle.fields.specs.declared.refusal.Refusal.{Refusal}
 use Rattle.tables.specs.Sizes.{cell_count, cycle_count}
 use Rattle.tables.specs.Formulas.{eq, lt, extension}

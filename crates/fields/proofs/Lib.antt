@@ -1,4 +1,3 @@
-mod Reduction
 mod Tables
 mod Powers
 pub mod Examples

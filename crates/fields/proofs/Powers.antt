@@ -1,12 +1,12 @@
 -- Products by exponents, for a number g whose power n leaves 1 modulo p.
 use Rattle.std.proofs.Common.{◌≡◌, ℕ, zero, suc, ◌+◌, ◌*◌, ◌/◌, ◌%◌, ◌^◌, sym, ap, ◌∙◌, one-mul, div-add-mod', arith, pow-add}
-use Rattle.fields.specs.Laws.Modular.{mod-mul, mul-mod}
+use Rattle.std.proofs.lemmas.Nat.{mul-mod_first, mul-mod_second}
 
 module _ (g n p : ℕ) (period : g ^ n % p ≡ 1) where
   one_period : (k : ℕ) → g ^ (n + k) % p ≡ g ^ k % p
   one_period k =
       ap (λ (x : ℕ). x % p) (pow-add g n k)
-      ∙ sym (mod-mul (g ^ n) (g ^ k) p)
+      ∙ sym (mul-mod_first (g ^ n) (g ^ k) p)
       ∙ ap (λ (x : ℕ). (x * g ^ k) % p) period
       ∙ ap (λ (x : ℕ). x % p) (one-mul (g ^ k))
 
@@ -22,5 +22,5 @@ module _ (g n p : ℕ) (period : g ^ n % p ≡ 1) where
       sym (periods ((i + j) / n) ((i + j) % n))
       ∙ ap (λ (x : ℕ). g ^ x % p) (div-add-mod' (i + j) n)
       ∙ ap (λ (x : ℕ). x % p) (pow-add g i j)
-      ∙ sym (mod-mul (g ^ i) (g ^ j) p)
-      ∙ sym (mul-mod (g ^ i % p) (g ^ j) p)
+      ∙ sym (mul-mod_first (g ^ i) (g ^ j) p)
+      ∙ sym (mul-mod_second (g ^ i % p) (g ^ j) p)

@@ -1,6 +1,6 @@
 -- The rule of a table at one entry, from the test over all of its entries.
 use Rattle.std.proofs.Common.{◌≡◌, ℕ, zero, suc, ◌+◌, ◌%◌, ◌^◌, ◌<◌, Bool, T, eqb, ltb, List, [], ◌∷◌, length, get_or, sym, ◌∙◌, subst, le_of_suc-le-suc, not-suc-le-zero, add-zero, add-suc, suc-add, zero-add, arith, eqb→eq, ltb→lt}
-use Rattle.fields.specs.Laws.Primes.{both_hold}
+use Rattle.fields.specs.Laws.Tests.{both_hold}
 use Rattle.fields.specs.PowerTables.{every, is_power, is_exponent}
 
 every_from : (test : ℕ → ℕ → Bool) (xs : List ℕ) (i : ℕ) → T (every test i xs) → (k : ℕ) → k < length xs → T (test (i + k) (get_or xs k 0))

@@ -13,7 +13,7 @@ F257 = Residue 257
 -- by trial division: none of the 16 numbers from 2 on divides it, and they pass its root
 pub f257_prime : Prime 257
 unfolding none_divides
-f257_prime = prime_by_trial _ 4 tt tt tt
+f257_prime = prime_by_trial _ 4 (lit< tt) tt (lit< tt)
 
 abbrev pub f257_modulus : FieldModulus 257
 f257_modulus = record { prime = f257_prime; long = lit< tt; short = lit< tt }

@@ -14,7 +14,7 @@ F31 = Residue 2147483647
 -- by trial division: none of the 65536 numbers from 2 on divides it, and they pass its root
 pub f31_prime : Prime 2147483647
 unfolding none_divides
-f31_prime = prime_by_trial _ 16 tt tt tt
+f31_prime = prime_by_trial _ 16 (lit< tt) tt (lit< tt)
 
 abbrev pub f31_modulus : FieldModulus 2147483647
 f31_modulus = record { prime = f31_prime; long = lit< tt; short = lit< tt }

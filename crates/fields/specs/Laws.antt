@@ -1,3 +1,4 @@
+pub mod Tests
 pub mod Derived
 pub mod Expressions
 pub mod Solve

@@ -1,9 +1,7 @@
 -- P31: pairs over F31, multiplied as complex numbers.
 use Rattle.std.specs.Prelude.{refl}
-use Rattle.std.proofs.Common.{lit<}
 use Rattle.fields.specs.Fields.{FieldOf}
-use Rattle.fields.specs.F31.{F31, f31_field, f31_residues, f31_prime}
-use Rattle.fields.specs.Laws.Residues.{residue_squares_apart}
+use Rattle.fields.specs.F31.{F31, f31_field, f31_squares_apart}
 use Rattle.fields.specs.Laws.Pairs.{Pairs, pair_field}
 use Rattle.fields.specs.declared.p31.P31.{P31}
 
@@ -21,4 +19,4 @@ p31_pairs = record {
 -- (a, b) means a + b · 2147483647; sums by parts, product (ac − bd, ad + bc).
 -- It is a field since minus one is not a square in F31: 2147483647 is 3 modulo 4.
 abbrev pub p31_field : FieldOf P31
-p31_field = pair_field f31_field (residue_squares_apart f31_residues f31_prime (lit< tt) refl) p31_pairs
+p31_field = pair_field f31_field f31_squares_apart p31_pairs

@@ -1,7 +1,8 @@
 -- Expressions over a commutative ring, and a normal form that computes: a difference of two sums of monomials.
 -- The variables of each monomial are sorted, the monomials too, and like ones are joined.
-use Rattle.std.specs.Prelude.{◌≡◌, ℕ, zero, suc, ◌+◌, ◌*◌, Bool, true, false, T, List, [], ◌∷◌, ◌==◌, nat_le, refl}
+use Rattle.std.specs.Prelude.{◌≡◌, ℕ, zero, suc, ◌+◌, ◌*◌, Bool, true, false, T, List, [], ◌∷◌, ◌==◌, ◌&&◌, cond, nat_le, refl}
 use Rattle.std.proofs.Common.{ap₂, eqb→eq}
+use Rattle.fields.specs.Laws.Tests.{both_hold}
 
 infixl 60 ◌⊕◌
 infixl 60 ◌⊖◌
@@ -34,13 +35,9 @@ pub record Difference : Type 0 where
   pub up : Sum
   pub down : Sum
 
-abbrev pub if : {A : Type 0} → Bool → A → A → A
-if true a b = a
-if false a b = b
-
 abbrev pub with_variable : ℕ → Monomial → Monomial
 with_variable i [] = i ∷ []
-with_variable i (j ∷ js) = let later = j ∷ with_variable i js in if (nat_le i j) (i ∷ j ∷ js) later
+with_variable i (j ∷ js) = let later = j ∷ with_variable i js in cond (nat_le i j) (i ∷ j ∷ js) later
 
 abbrev pub joined : Monomial → Monomial → Monomial
 joined [] n = n
@@ -50,19 +47,19 @@ abbrev pub same : Monomial → Monomial → Bool
 same [] [] = true
 same [] (j ∷ n) = false
 same (i ∷ m) [] = false
-same (i ∷ m) (j ∷ n) = if (i == j) (same m n) false
+same (i ∷ m) (j ∷ n) = i == j && same m n
 
 abbrev pub before : Monomial → Monomial → Bool
 before [] n = true
 before (i ∷ m) [] = false
-before (i ∷ m) (j ∷ n) = if (i == j) (before m n) (nat_le i j)
+before (i ∷ m) (j ∷ n) = cond (i == j) (before m n) (nat_le i j)
 
 abbrev pub with_term : Term → Sum → Sum
 with_term t [] = t ∷ []
 with_term t (u ∷ us) =
     let later = u ∷ with_term t us in
-    let sorted = if (before t.monomial u.monomial) (t ∷ u ∷ us) later in
-    if (same t.monomial u.monomial) (record { times = t.times + u.times; monomial = u.monomial } ∷ us) sorted
+    let sorted = cond (before t.monomial u.monomial) (t ∷ u ∷ us) later in
+    cond (same t.monomial u.monomial) (record { times = t.times + u.times; monomial = u.monomial } ∷ us) sorted
 
 abbrev pub sum : Sum → Sum → Sum
 sum [] q = q
@@ -108,30 +105,24 @@ abbrev pub agree : Sum → Sum → Bool
 agree [] [] = true
 agree [] (u ∷ q) = false
 agree (t ∷ p) [] = false
-agree (t ∷ p) (u ∷ q) =
-    let others = agree p q in
-    if (t.times == u.times) (if (same t.monomial u.monomial) others false) false
-
-if_true : (b c : Bool) → T (if b c false) → T b × T c
-if_true true c h = (tt, h)
-if_true false c h = absurd h
+agree (t ∷ p) (u ∷ q) = t.times == u.times && (same t.monomial u.monomial && agree p q)
 
 pub same_equal : (m n : Monomial) → T (same m n) → m ≡ n
 same_equal [] [] h = refl
 same_equal [] (j ∷ n) h = absurd h
 same_equal (i ∷ m) [] h = absurd h
 same_equal (i ∷ m) (j ∷ n) h =
-    let both = if_true (i == j) (same m n) h in
-    ap₂ ◌∷◌ (eqb→eq i j both.0) (same_equal m n both.1)
+    let parts = both_hold (i == j) (same m n) h in
+    ap₂ ◌∷◌ (eqb→eq i j parts.0) (same_equal m n parts.1)
 
 pub agree_equal : (p q : Sum) → T (agree p q) → p ≡ q
 agree_equal [] [] h = refl
 agree_equal [] (u ∷ q) h = absurd h
 agree_equal (t ∷ p) [] h = absurd h
 agree_equal (t ∷ p) (u ∷ q) h =
-    let both = if_true (t.times == u.times) (if (same t.monomial u.monomial) (agree p q) false) h in
-    let rest = if_true (same t.monomial u.monomial) (agree p q) both.1 in
-    let n = eqb→eq t.times u.times both.0 in
+    let parts = both_hold (t.times == u.times) (same t.monomial u.monomial && agree p q) h in
+    let rest = both_hold (same t.monomial u.monomial) (agree p q) parts.1 in
+    let n = eqb→eq t.times u.times parts.0 in
     let m = same_equal t.monomial u.monomial rest.0 in
     ap₂ ◌∷◌ (λ i. record { times = n i; monomial = m i }) (agree_equal p q rest.1)
 

@@ -1,23 +1,14 @@
--- Products of remainders, and inverses modulo a prime, so that a product is a multiple only if a factor is.
+-- Inverses modulo a prime, so that a product is a multiple only if a factor is.
 use Rattle.std.specs.Prelude.{◌≡◌, ℕ, zero, suc, ◌+◌, ◌*◌, ◌/◌, ◌%◌, ◌<◌, ◌≤◌, ◌≢◌, ◌⊎◌}
-use Rattle.std.proofs.Common.{sym, ap, ◌∙◌, inl, inr, mul_comm, mul_assoc, mul-suc, one-mul, add-mul, mul_right_comm, mod-lt, mod-eq_of_lt, zero-mul, arith}
-use Rattle.std.proofs.Math.Nat.{mod-add-div', add-mul-mod_self_right, add-mod-mod, mul-mod_right, mul-add-mod_self_right, div-add-mod, zero-mod}
+use Rattle.std.proofs.Common.{sym, ap, ◌∙◌, inl, inr, mul_assoc, mul-suc, one-mul, add-mul, mul_right_comm, mod-lt, mod-eq_of_lt, zero-mul, arith}
+use Rattle.std.proofs.Math.Nat.{add-mod-mod, mul-mod_right, mul-add-mod_self_right, div-add-mod, zero-mod}
+use Rattle.std.proofs.lemmas.Nat.{mul-mod_first}
 use Rattle.std.proofs.Math.Decide.{ℕ_discrete}
 use Rattle.fields.specs.Laws.Primes.{Prime}
 
-pub mod-mul : (a b m : ℕ) → (a % m * b) % m ≡ (a * b) % m
-mod-mul a b m =
-    sym
-    (ap (λ (x : ℕ). (x * b) % m) (sym (mod-add-div' a m))
-    ∙ ap (λ (x : ℕ). x % m) (add-mul (a % m) (a / m * m) b ∙ ap (λ (x : ℕ). a % m * b + x) (mul_right_comm (a / m) m b))
-    ∙ add-mul-mod_self_right (a % m * b) (a / m * b) m)
-
-pub mul-mod : (a b m : ℕ) → (a * (b % m)) % m ≡ (a * b) % m
-mul-mod a b m = ap (λ (x : ℕ). x % m) (mul_comm a (b % m)) ∙ mod-mul b a m ∙ ap (λ (x : ℕ). x % m) (mul_comm b a)
-
 -- a multiple of m, times anything
 pub multiple_mul : (a b m : ℕ) → a % m ≡ 0 → (a * b) % m ≡ 0
-multiple_mul a b m e = sym (mod-mul a b m) ∙ ap (λ (x : ℕ). (x * b) % m) e ∙ ap (λ (x : ℕ). x % m) (zero-mul b) ∙ zero-mod m
+multiple_mul a b m e = sym (mul-mod_first a b m) ∙ ap (λ (x : ℕ). (x * b) % m) e ∙ ap (λ (x : ℕ). x % m) (zero-mul b) ∙ zero-mod m
 
 -- x is minus one, so x times minus one is one
 minus_one : (m x : ℕ) → 0 < m → (x + 1) % suc m ≡ 0 → (x * m) % suc m ≡ 1
@@ -53,7 +44,7 @@ pub inverse : (p : ℕ) → Prime p → (a : ℕ) → a % p ≢ 0 → (c : ℕ) 
 inverse zero prime a n = absurd (omega (arith, prime.above_one))
 inverse (suc m) prime a n =
     let i = inverse_below m prime (a % suc m) (a % suc m) (omega arith) (omega arith) (mod-lt a (omega arith)) in
-    (i.0, sym (mod-mul a i.0 (suc m)) ∙ i.1)
+    (i.0, sym (mul-mod_first a i.0 (suc m)) ∙ i.1)
 
 -- a product that a prime divides has a factor that it divides
 pub euclid : (p : ℕ) → Prime p → (a b : ℕ) → (a * b) % p ≡ 0 → (a % p ≡ 0) ⊎ (b % p ≡ 0)
@@ -65,7 +56,7 @@ euclid p prime a b e =
           inr
           (sym (ap (λ (x : ℕ). x % p) (one-mul b))
           ∙ ap (λ (x : ℕ). (x * b) % p) (sym i.1)
-          ∙ mod-mul (a * i.0) b p
+          ∙ mul-mod_first (a * i.0) b p
           ∙ ap (λ (x : ℕ). x % p) (mul_right_comm a i.0 b)
           ∙ multiple_mul (a * b) i.0 p e)
     ]

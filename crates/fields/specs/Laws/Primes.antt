@@ -1,26 +1,19 @@
 -- What a prime is, and trial division that computes.
-use Rattle.std.specs.Prelude.{◌≡◌, ℕ, zero, suc, ◌+◌, ◌*◌, ◌/◌, ◌%◌, ◌^◌, ◌<◌, ◌≤◌, Bool, true, false, not, T, ◌≢◌, ◌==◌, nat_le}
-use Rattle.std.proofs.Common.{ap, subst, ◌∙◌, pow-suc, mul-le-mul, mul-zero, mul-one, arith, T_not, lit<}
+use Rattle.std.specs.Prelude.{◌≡◌, ℕ, zero, suc, ◌+◌, ◌*◌, ◌/◌, ◌%◌, ◌^◌, ◌<◌, ◌≤◌, Bool, not, T, ◌≢◌, ◌==◌, ◌&&◌}
+use Rattle.std.proofs.Common.{ap, subst, ◌∙◌, pow-suc, mul-le-mul, mul-zero, mul-one, arith, T_not}
 use Rattle.std.proofs.Math.Nat.{mul-mod_left, div-add-mod}
 use Rattle.std.proofs.Math.Decide.{dec_lt}
 use Rattle.std.proofs.Math.Dec.{eqb_refl}
+use Rattle.fields.specs.Laws.Tests.{both_hold}
 
 pub record Prime (p : ℕ) : Type 0 where
   pub above_one : 1 < p
   pub undivided : (d : ℕ) → 1 < d → d < p → p % d ≢ 0
 
-abbrev pub both : Bool → Bool → Bool
-both true b = b
-both false b = false
-
-pub both_hold : (a b : Bool) → T (both a b) → T a × T b
-both_hold true b h = (tt, h)
-both_hold false b h = absurd h
-
 -- none of the 2 ^ k numbers from m on divides p; by halves, so that computing it goes k deep
 unfoldable pub none_divides : ℕ → ℕ → ℕ → Bool
 none_divides p zero m = not (p % m == 0)
-none_divides p (suc k) m = both (none_divides p k m) (none_divides p k (m + 2 ^ k))
+none_divides p (suc k) m = none_divides p k m && none_divides p k (m + 2 ^ k)
 
 none_divides-at : (p k m : ℕ) → T (none_divides p k m) → (d : ℕ) → m ≤ d → d < m + 2 ^ k → p % d ≢ 0
 unfolding none_divides
@@ -49,5 +42,5 @@ prime_below_square p s above undivided_below square =
         undivided_below (p / d) (omega arith) (omega arith) (subst (λ (x : ℕ). x % (p / d) ≡ 0) whole (mul-mod_left d (p / d)))
 
 -- p is prime if none of the 2 ^ k numbers from 2 on divides it, and they reach its root
-pub prime_by_trial : (p k : ℕ) → T (nat_le 2 p) → T (none_divides p k 2) → T (nat_le (suc p) ((2 + 2 ^ k) * (2 + 2 ^ k))) → Prime p
-prime_by_trial p k above none square = prime_below_square p (2 + 2 ^ k) (lit< above) (none_divides-at p k 2 none) (lit< square)
+pub prime_by_trial : (p k : ℕ) → 1 < p → T (none_divides p k 2) → p < (2 + 2 ^ k) * (2 + 2 ^ k) → Prime p
+prime_by_trial p k above none square = prime_below_square p (2 + 2 ^ k) above (none_divides-at p k 2 none) square

@@ -7,7 +7,8 @@ use Rattle.std.proofs.Math.Nat.{mod_self, mod-add-mod, add-mod-mod, zero-mod}
 use Rattle.std.proofs.Math.Bridge.{le_prop}
 use Rattle.fields.specs.Fields.{FieldOf, ones_of, most_ones}
 use Rattle.fields.specs.Laws.Primes.{Prime}
-use Rattle.fields.specs.Laws.Modular.{mod-mul, mul-mod, euclid}
+use Rattle.std.proofs.lemmas.Nat.{mul-mod_first, mul-mod_second}
+use Rattle.fields.specs.Laws.Modular.{euclid}
 use Rattle.fields.specs.Laws.Squares.{SquaresApart, squares_apart}
 
 -- C holds the numbers below p, each once
@@ -70,18 +71,14 @@ module _ {C : Type 0} {p : ℕ} (c : Residues C p) (positive : 0 < p) where
 
   pub product_assoc : (a b d : C) → product (product a b) d ≡ product a (product b d)
   product_assoc a b d =
-      residue_equal (value (product a b) * value d) (value a * value (product b d)) (simp (value-residue, mod-mul, mul-mod, mul_assoc))
+      residue_equal (value (product a b) * value d) (value a * value (product b d)) (simp (value-residue, mul-mod_first, mul-mod_second, mul_assoc))
 
   pub product-one : (a : C) → product a (residue 1) ≡ a
-  product-one a = residue_equal (value a * value (residue 1)) (value a) (simp (value-residue, mul-mod, mul-one)) ∙ residue-value a
+  product-one a = residue_equal (value a * value (residue 1)) (value a) (simp (value-residue, mul-mod_second, mul-one)) ∙ residue-value a
 
   pub product-sum : (a b d : C) → product a (sum b d) ≡ sum (product a b) (product a d)
   product-sum a b d =
-      residue_equal (value a * value (sum b d)) (value (product a b) + value (product a d)) (simp (value-residue, mul-mod, mod-add-mod, add-mod-mod, mul-add))
-
-  -- a difference may be reduced once
-  pub residue_difference : (a b : C) → residue (value a + (p - value b)) ≡ sum a (negative b)
-  residue_difference a b = residue_equal (value a + (p - value b)) (value a + value (negative b)) (simp (value-residue, add-mod-mod))
+      residue_equal (value a * value (sum b d)) (value (product a b) + value (product a d)) (simp (value-residue, mul-mod_second, mod-add-mod, add-mod-mod, mul-add))
 
   -- a residue whose value is a multiple is zero
   zero_of_multiple : (a : C) → value a % p ≡ 0 → a ≡ residue 0

@@ -1,10 +1,10 @@
 -- Identities of commutative rings, decided by computing: `solve2 f (λ x y. x ⊗ y ≐ y ⊗ x) tt a b` is `a · b ≡ b · a`.
 -- Two expressions with one normal form have one value in every field.
-use Rattle.std.specs.Prelude.{◌≡◌, ℕ, zero, suc, ◌+◌, ◌*◌, Bool, true, false, T, List, [], ◌∷◌, nat_le, refl}
+use Rattle.std.specs.Prelude.{◌≡◌, ℕ, zero, suc, ◌+◌, ◌*◌, Bool, true, false, T, List, [], ◌∷◌, cond, nat_le, refl}
 use Rattle.std.proofs.Common.{sym, ap, ap₂, subst, ◌∙◌}
 use Rattle.fields.specs.Fields.{FieldOf, less, ones}
 use Rattle.fields.specs.Laws.Derived.{add_left_comm, mul_left_comm, zero-add, one-mul, add-mul, add_cancel, mul-zero, zero-mul, ones-add, ones-mul}
-use Rattle.fields.specs.Laws.Expressions.{Monomial, Term, Sum, Difference, if, with_variable, joined, same, before, with_term, sum, scaled, product, numeral, normal, side, agree, same_equal, agree_equal, Computes}
+use Rattle.fields.specs.Laws.Expressions.{Monomial, Term, Sum, Difference, with_variable, joined, same, before, with_term, sum, scaled, product, numeral, normal, side, agree, same_equal, agree_equal, Computes}
 pub use Rattle.fields.specs.Laws.Expressions.{Expression, var, con, ◌⊕◌, ◌⊖◌, ◌⊗◌, ⊝, Equation, ◌≐◌}
 
 -- the variable i among the values given, and zero past them
@@ -62,7 +62,7 @@ module _ {F : Type 0} (f : FieldOf F) (xs : List F) where
   with_variable-value i (j ∷ js) = either (nat_le i j) (with_variable-value i js)
     where
       either : (b : Bool) → monomial_value (with_variable i js) ≡ mul (at i) (monomial_value js)
-          → monomial_value (if b (i ∷ j ∷ js) (j ∷ with_variable i js)) ≡ mul (at i) (monomial_value (j ∷ js))
+          → monomial_value (cond b (i ∷ j ∷ js) (j ∷ with_variable i js)) ≡ mul (at i) (monomial_value (j ∷ js))
       either true h = refl
       either false h = ap (mul (at j)) h ∙ mul_left_comm f (at j) (at i) (monomial_value js)
 
@@ -75,7 +75,7 @@ module _ {F : Type 0} (f : FieldOf F) (xs : List F) where
   with_term-value t (u ∷ us) = either (same t.monomial u.monomial) (before t.monomial u.monomial) refl (with_term-value t us)
     where
       either : (b s : Bool) → same t.monomial u.monomial ≡ b → sum_value (with_term t us) ≡ add (term_value t) (sum_value us)
-          → sum_value (if b (record { times = t.times + u.times; monomial = u.monomial } ∷ us) (if s (t ∷ u ∷ us) (u ∷ with_term t us))) ≡ add (term_value t) (sum_value (u ∷ us))
+          → sum_value (cond b (record { times = t.times + u.times; monomial = u.monomial } ∷ us) (cond s (t ∷ u ∷ us) (u ∷ with_term t us))) ≡ add (term_value t) (sum_value (u ∷ us))
       either true s e h =
           let alike = same_equal t.monomial u.monomial (subst T (sym e) tt) in
           ap (λ x. add x (sum_value us)) (ap (λ x. mul x (monomial_value u.monomial)) (ones-add f t.times u.times) ∙ add-mul f (ones f t.times) (ones f u.times) (monomial_value u.monomial))

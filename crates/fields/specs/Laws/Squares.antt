@@ -5,7 +5,8 @@ use Rattle.std.proofs.Math.Nat.{mul-mul-mul_comm, mul-add-mod_self_left, add-mod
 use Rattle.std.proofs.Math.Decide.{ℕ_discrete}
 use Rattle.fields.specs.Fields.{FieldOf}
 use Rattle.fields.specs.Laws.Primes.{Prime}
-use Rattle.fields.specs.Laws.Modular.{mod-mul, mul-mod, multiple_mul, inverse, euclid}
+use Rattle.std.proofs.lemmas.Nat.{mul-mod_first, mul-mod_second}
+use Rattle.fields.specs.Laws.Modular.{multiple_mul, inverse, euclid}
 
 -- two squares add up to zero only if both are zero: minus one is not a square
 abbrev pub SquaresApart : {F : Type 0} → FieldOf F → Type 0
@@ -14,7 +15,7 @@ SquaresApart {F} f = (a b : F) → f.add (f.mul a a) (f.mul b b) ≡ f.zero → 
 -- a root of minus one may be reduced, and replaced by its negative
 root_mod : (a m : ℕ) → (a % m * (a % m) + 1) % m ≡ (a * a + 1) % m
 root_mod a m =
-    sym (mod-add-mod (a % m * (a % m)) m 1) ∙ ap (λ (x : ℕ). (x + 1) % m) (mod-mul a (a % m) m ∙ mul-mod a a m) ∙ mod-add-mod (a * a) m 1
+    sym (mod-add-mod (a % m * (a % m)) m 1) ∙ ap (λ (x : ℕ). (x + 1) % m) (mul-mod_first a (a % m) m ∙ mul-mod_second a a m) ∙ mod-add-mod (a * a) m 1
 
 root_negative : (a b : ℕ) → (a * a + 1) % (a + b) ≡ (b * b + 1) % (a + b)
 root_negative a b =
@@ -77,7 +78,7 @@ squares_apart p prime t a b e =
           let i = inverse p prime b n in
           let c : ℕ = i.0 in
           let square : (b * c * (b * c)) % p ≡ 1 =
-          sym (mul-mod (b * c) (b * c) p) ∙ sym (mod-mul (b * c) ((b * c) % p) p) ∙ ap₂ (λ (u v : ℕ). (u * v) % p) i.1 i.1 ∙ mod-eq_of_lt prime.above_one in
+          sym (mul-mod_second (b * c) (b * c) p) ∙ sym (mul-mod_first (b * c) ((b * c) % p) p) ∙ ap₂ (λ (u v : ℕ). (u * v) % p) i.1 i.1 ∙ mod-eq_of_lt prime.above_one in
           absurd
           (no_root p p (a * c) (le_refl p) t
           (ap (λ (y : ℕ). (a * c * (a * c) + y) % p) (sym square)

@@ -1,3 +1,4 @@
 mod Tables
+mod Pairs
 mod Powers
 pub mod Examples

@@ -15,6 +15,7 @@ const MODULUS: u32 = 257;
 pub type F257 = Residue<MODULUS>;
 
 // The power of 3 with an exponent.
+#[tactic(auto, using(crate::proofs::Tables::power_at))]
 fn power(exponent: usize) -> u32
     requires { exponent < 256 }
     ensures { result ≡ 3 ^ exponent % 257 }
@@ -23,6 +24,7 @@ fn power(exponent: usize) -> u32
 }
 
 // The exponent below 256 with which 3 gives a number.
+#[tactic(auto, using(crate::proofs::Tables::exponent_at))]
 fn exponent(number: u32) -> usize
     requires positive { 0 < number }
     requires below { number < 257 }

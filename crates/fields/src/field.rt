@@ -42,6 +42,7 @@ pub trait Field: Copy + Eq {
     }
 
     // The element that means `number`, which has to be below the order.
+    // A method, and no TryFrom: that one promises a relation of its own, which a law would have to tie to the field.
     fn from_number(number: u64) -> Result<Self, Refusal>
         ensures { result ≡ element_for field number };
 

@@ -12,6 +12,7 @@ use crate::p31::P31;
 use crate::refusal::Refusal;
 use std::fmt;
 
+#[tactic(auto, using(crate::proofs::Pairs::p31_same))]
 impl Field for P31 {
     const ORDER: u64 = f31::MODULUS as u64 * f31::MODULUS as u64;
 

@@ -8,11 +8,10 @@ use crate::refusal::Refusal;
 use crate::residue::Residue;
 use std::fmt;
 
-// What each prime has of its own.
+// What each prime Q has of its own: the facts that make a field of the residues modulo Q, and their product.
 pub(crate) trait ModuloPrime<const Q: u32> {
     ghost modulus: { FieldModulus Q };
 
-    // The product of two residues.
     fn product(a: u32, b: u32) -> u32
         requires first { a < Q }
         requires second { b < Q }

@@ -54,6 +54,19 @@ impl<F: Field> Polynomial<F> {
         }
     }
 
+    // The polynomial with `of` the coefficients of both at each power.
+    fn zip_with<G: Fn(F, F) -> F>(self, other: Polynomial<F>, of: G) -> Polynomial<F>
+        requires { G.IsAlwaysCallable of }
+        ensures { AreFrom (λ i. G.post of (the_coefficient F.Field.field (coefficients self) i) (the_coefficient F.Field.field (coefficients other) i)) 0 (coefficients result) }
+    {
+        Polynomial::from_fn(
+            |i| -> F
+                requires { G.IsAlwaysCallable of }
+                ensures { G.post of (the_coefficient F.Field.field (coefficients self) i) (the_coefficient F.Field.field (coefficients other) i) result }
+            { of(self.coefficient(i), other.coefficient(i)) },
+        )
+    }
+
     pub fn zero() -> Polynomial<F>
         ensures { coefficients result ≡ kept F.Field.field [] }
     {
@@ -89,21 +102,13 @@ impl<F: Field> Polynomial<F> {
     pub fn plus(self, other: Polynomial<F>) -> Polynomial<F>
         ensures { coefficients result ≡ poly_add F.Field.field (coefficients self) (coefficients other) }
     {
-        Polynomial::from_fn(
-            |i| -> F
-                ensures { result ≡ F.Field.field.add (the_coefficient F.Field.field (coefficients self) i) (the_coefficient F.Field.field (coefficients other) i) }
-            { self.coefficient(i).plus(other.coefficient(i)) },
-        )
+        self.zip_with(other, |a, b| a.plus(b))
     }
 
     pub fn minus(self, other: Polynomial<F>) -> Polynomial<F>
         ensures { coefficients result ≡ less F.Field.field (polynomials F.Field.field) (coefficients self) (coefficients other) }
     {
-        Polynomial::from_fn(
-            |i| -> F
-                ensures { result ≡ F.Field.field.add (the_coefficient F.Field.field (coefficients self) i) (F.Field.field.neg (the_coefficient F.Field.field (coefficients other) i)) }
-            { self.coefficient(i).minus(other.coefficient(i)) },
-        )
+        self.zip_with(other, |a, b| a.minus(b))
     }
 
     // The product with the line that is `low` at zero and `high` at one. An eighth coefficient is left out, and there is none where c6 is zero.

@@ -3,7 +3,7 @@ use Rattle.std.proofs.Common.{◌≡◌, ℕ, zero, suc, ◌+◌, ◌-◌, ◌<�
 use Rattle.fields.specs.Fields.{FieldOf, most_ones, ones}
 use Rattle.fields.specs.Laws.Derived.{zero-add, add_cancel, equal_of_less, ones-add}
 use Rattle.tables.specs.Formulas.{less}
-use Rattle.rounds.specs.Polynomials.{Degree, poly_add, polynomials, value, coefficient, padded, Zero}
+use Rattle.rounds.specs.Polynomials.{Degree, polynomials, value, coefficient, padded, Zero}
 use Rattle.rounds.specs.Roots.{Apart, Different, AllRoots}
 use Rattle.rounds.proofs.Coefficients.{coefficient-plus, coefficient-minus}
 use Rattle.rounds.proofs.Degrees.{degree_less}

@@ -1,4 +1,4 @@
-use Rattle.std.proofs.Common.{◌≡◌, ℕ, zero, suc, ◌+◌, ◌<◌, List, [], ◌∷◌, ◌++◌, length, drop, set, take, refl, ap, ◌∙◌, add-one, arith}
+use Rattle.std.proofs.Common.{◌≡◌, ℕ, zero, suc, ◌<◌, List, [], ◌∷◌, ◌++◌, length, drop, set, take, refl, ap, add-one, arith}
 use Rattle.fields.specs.Fields.{FieldOf}
 use Rattle.rounds.specs.Polynomials.{coefficient, padded}
 use Rattle.rounds.specs.Accumulators.{coefficients}

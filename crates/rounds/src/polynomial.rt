@@ -22,7 +22,7 @@ pub struct Polynomial<F> {
 }
 
 impl<F: Field> Polynomial<F> {
-    // The polynomial with the coefficient `of(i)` at each power `i` of the variable.
+    // The polynomial whose coefficient of the power `i` of the variable is `of(i)`.
     fn from_fn<G: Fn(usize) -> F>(of: G) -> Polynomial<F>
         requires { G.IsAlwaysCallable of }
         ensures { AreFrom (G.post of) 0 (coefficients result) }
@@ -54,7 +54,7 @@ impl<F: Field> Polynomial<F> {
         }
     }
 
-    // The polynomial with `of` the coefficients of both at each power.
+    // The polynomial whose coefficient at each power is `of` those of both.
     fn zip_with<G: Fn(F, F) -> F>(self, other: Polynomial<F>, of: G) -> Polynomial<F>
         requires { G.IsAlwaysCallable of }
         ensures { AreFrom (λ i. G.post of (the_coefficient F.Field.field (coefficients self) i) (the_coefficient F.Field.field (coefficients other) i)) 0 (coefficients result) }

@@ -3,27 +3,16 @@ use Rattle.std.proofs.Common.{◌≡◌, ℕ, zero, suc, ◌+◌, ◌-◌, ◌<�
 use Rattle.fields.specs.Fields.{FieldOf, most_ones, ones}
 use Rattle.fields.specs.Laws.Derived.{zero-add, add_cancel, equal_of_less, ones-add}
 use Rattle.tables.specs.Formulas.{less}
-use Rattle.rounds.specs.Polynomials.{Degree, poly_add, polynomials, value, coefficient, padded, Zero}
+use Rattle.rounds.specs.Polynomials.{Degree, polynomials, value, coefficient, padded, Zero}
 use Rattle.rounds.specs.Roots.{Apart, Different, AllRoots}
-use Rattle.rounds.proofs.Padding.{neg-zero}
+use Rattle.rounds.proofs.Coefficients.{coefficient-plus, coefficient-minus}
 use Rattle.rounds.proofs.Degrees.{degree_less}
 use Rattle.rounds.proofs.Zeros.{root_of_less}
 use Rattle.rounds.proofs.Roots.{zero_by_roots}
 
 module _ {F : Type 0} (f : FieldOf F) where
-  coefficient-plus : (p q : List F) (i : ℕ) → coefficient f (poly_add f p q) i ≡ f.add (coefficient f p i) (coefficient f q i)
-  coefficient-plus [] q i = sym (zero-add f (coefficient f q i))
-  coefficient-plus (a ∷ p) [] i = sym (f.add-zero (coefficient f (a ∷ p) i))
-  coefficient-plus (a ∷ p) (b ∷ q) zero = refl
-  coefficient-plus (a ∷ p) (b ∷ q) (suc i) = coefficient-plus p q i
-
-  coefficient-minus : (p : List F) (i : ℕ) → coefficient f (map f.neg p) i ≡ f.neg (coefficient f p i)
-  coefficient-minus [] i = sym (neg-zero f)
-  coefficient-minus (a ∷ p) zero = refl
-  coefficient-minus (a ∷ p) (suc i) = coefficient-minus p i
-
   -- polynomials with the same coefficients are filled up to the same list
-  pub padded-same : (n : ℕ) (p q : List F) → ((i : ℕ) → coefficient f p i ≡ coefficient f q i) → padded f n p ≡ padded f n q
+  padded-same : (n : ℕ) (p q : List F) → ((i : ℕ) → coefficient f p i ≡ coefficient f q i) → padded f n p ≡ padded f n q
   padded-same zero p q h = refl
   padded-same (suc n) [] [] h = refl
   padded-same (suc n) [] (b ∷ q) h = ap₂ ◌∷◌ (h 0) (padded-same n [] q (λ i. h (suc i)))
@@ -73,4 +62,4 @@ module _ {F : Type 0} (f : FieldOf F) where
       alike : (i : ℕ) → coefficient f p i ≡ coefficient f q i
       alike i =
           equal_of_less f (coefficient f p i) (coefficient f q i)
-          (sym (coefficient-plus p (map f.neg q) i ∙ ap (f.add (coefficient f p i)) (coefficient-minus q i)) ∙ gap_zero i)
+          (sym (coefficient-plus f p (map f.neg q) i ∙ ap (f.add (coefficient f p i)) (coefficient-minus f q i)) ∙ gap_zero i)

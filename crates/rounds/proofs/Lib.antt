@@ -1,5 +1,6 @@
 pub mod Values
 pub mod Padding
+pub mod Coefficients
 pub mod Readings
 pub mod Degrees
 pub mod Zeros

@@ -1,5 +1,6 @@
 -- The value of a sum, a product and a negative of polynomials.
-use Rattle.std.proofs.Common.{◌≡◌, ℕ, zero, suc, ◌≤◌, List, [], ◌∷◌, map, length, sym, refl, ap, ◌∙◌, ap₂, arith}
+use Rattle.std.proofs.Common.{◌≡◌, ℕ, zero, suc, ◌≤◌, List, [], ◌∷◌, map, length, reverse, sym, refl, ap, ◌∙◌, ap₂, arith}
+use Rattle.std.specs.List.{fold}
 use Rattle.fields.specs.Fields.{FieldOf, elements}
 use Rattle.fields.specs.Laws.Derived.{mul_left_comm, zero-add, mul-zero, zero-mul}
 use Rattle.fields.specs.Laws.Solve.{con, ◌⊕◌, ◌⊖◌, ◌⊗◌, ⊝, ◌≐◌, solve1, solve2, solve3, solve4, solve5}
@@ -58,6 +59,17 @@ module _ {F : Type 0} (f : FieldOf F) where
   sum_shifted (suc n) g h x e =
       ap₂ add (sum_shifted n g h x e) (e n)
       ∙ solve4 f (λ a x s b. (a ⊕ x ⊗ s) ⊕ x ⊗ b ≐ a ⊕ x ⊗ (s ⊕ b)) tt (h 0) x (sum_below f n g) (g n)
+
+  -- a step that takes in the coefficient before those that are done
+  abbrev pub step : F → F → F → F
+  step x sum a = add a (mul x sum)
+
+  fold_reversed : (p done : List F) (x : F) → fold (step x) f.zero (fold (λ r a. a ∷ r) done p) ≡ fold (step x) (value f p x) done
+  fold_reversed [] done x = refl
+  fold_reversed (a ∷ p) done x = fold_reversed p (a ∷ done) x
+
+  pub value_by_steps : (p : List F) (x : F) → fold (step x) f.zero (reverse p) ≡ value f p x
+  value_by_steps p x = fold_reversed p [] x
 
   pub value_by_powers : (p : List F) (x : F) → value f p x ≡ power_sum f p x
   value_by_powers [] x = refl

@@ -1,5 +1,5 @@
 -- The polynomial that the code works with: as many coefficients as the longest message has.
-use Rattle.std.specs.Prelude.{◌≡◌, ℕ, ◌+◌, cond, List, [], ◌∷◌, ◌++◌, length, drop, Ok, Err, Result, nat_le}
+use Rattle.std.specs.Prelude.{◌≡◌, ℕ, ◌+◌, ⊤, cond, List, [], ◌∷◌, ◌++◌, length, drop, Ok, Err, Result, nat_le}
 use Rattle.fields.specs.Fields.{FieldOf}
 use Rattle.fields.specs.declared.refusal.Refusal.{Refusal}
 use Rattle.fields.specs.declared.refusal.Refusal.TheVariants.{TooShort}
@@ -14,6 +14,11 @@ most_coefficients = most_chunks + 3
 -- the coefficients, constant first
 abbrev pub coefficients : {F : Type 0} → Polynomial F → List F
 coefficients p = p.c0 ∷ p.c1 ∷ p.c2 ∷ p.c3 ∷ p.c4 ∷ p.c5 ∷ p.c6 ∷ []
+
+-- R holds of each coefficient and its power, of which the first is i
+abbrev pub AreFrom : {F : Type 0} → (ℕ → F → Type 0) → ℕ → List F → Type 0
+AreFrom R i [] = ⊤
+AreFrom R i (a ∷ p) = R i a × AreFrom R (i + 1) p
 
 module _ {F : Type 0} (f : FieldOf F) where
   -- p with as many coefficients as there is room for

@@ -9,20 +9,17 @@ pub fn evaluate<F: Field>(message: &[F], x: F) -> F
     ensures value { result ≡ value F.Field.field message.now x }
     ensures powers { result ≡ power_sum F.Field.field message.now x }
 {
-    let mut sum = F::zero_element();
-    for i in (0..message.len()).rev() {
-        sum = message[i].plus(x.times(sum));
-    }
-    sum
+    message.iter().rfold(
+        F::zero_element(),
+        |sum, c| -> F
+            ensures { result ≡ F.Field.field.add c.now (F.Field.field.mul x sum) }
+        { c.plus(x.times(sum)) },
+    )
 }
 
 // The coefficient of the power `i` of the variable, zero past the end of the message.
 pub(crate) fn coefficient_of<F: Field>(message: &[F], i: usize) -> F
     ensures { result ≡ coefficient F.Field.field message.now i }
 {
-    if i < message.len() {
-        message[i]
-    } else {
-        F::zero_element()
-    }
+    message.get(i).copied().unwrap_or(F::zero_element())
 }

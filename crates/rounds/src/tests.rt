@@ -7,21 +7,14 @@ use fields::refusal::Refusal;
 
 // The element that means a number below the order.
 fn f257(number: u64) -> F257 {
-    match F257::from_number(number) {
-        Ok(x) => x,
-        Err(_) => F257::ZERO,
-    }
+    F257::from_number(number).unwrap_or(F257::ZERO)
 }
 
 // What the first so many coefficients are, written over eight nines.
 fn written(p: Polynomial<F257>, count: usize) -> Result<[u64; 8], Refusal> {
     let mut output = [f257(9); 8];
     p.write(count, &mut output)?;
-    let mut numbers = [0; 8];
-    for i in 0..8 {
-        numbers[i] = output[i].to_number();
-    }
-    Ok(numbers)
+    Ok(output.map(|x| x.to_number()))
 }
 
 #[test]

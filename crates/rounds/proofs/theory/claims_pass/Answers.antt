@@ -2,4 +2,4 @@ use Rattle.rounds.proofs.Rounds.{claim_passes}
 use Rattle.rounds.proofs.theory.claims_pass.Goals as goal
 
 pub returns : goal.returns
-returns g c = λ f s agrees r left. claim_passes f s agrees r left
+returns g c = claim_passes

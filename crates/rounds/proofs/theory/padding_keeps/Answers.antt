@@ -2,4 +2,4 @@ use Rattle.rounds.proofs.Padding.{padding}
 use Rattle.rounds.proofs.theory.padding_keeps.Goals as goal
 
 pub returns : goal.returns
-returns g c = λ f n. padding f n
+returns g c = padding

@@ -2,4 +2,4 @@ use Rattle.rounds.proofs.Rounds.{round_sums}
 use Rattle.rounds.proofs.theory.round_sums_stand.Goals as goal
 
 pub returns : goal.returns
-returns g c = λ f s agrees r left. round_sums f s agrees r left
+returns g c = round_sums

@@ -24,10 +24,7 @@ fn increment_at<F: Field, M: Listed<F>>(inc: &M, index: usize) -> F
     requires { index < 2 ^ (M.Committed.table inc.now).variables }
     ensures { result ≡ entry F.Field.field (M.Committed.table inc.now).entries index }
 {
-    match inc.entry(index) {
-        Ok(value) => value,
-        Err(_) => unreachable(),
-    }
+    inc.entry(index).unwrap()
 }
 
 // The sums over the `count` increments from `start` on, by halves of the cycles.
@@ -80,7 +77,12 @@ fn value_from<F: Field, M: Listed<F>>(
 }
 
 // Val at an address and a cycle that fit the increments.
-fn value_of<F: Field, M: Listed<F>>(sizes: Sizes, inc: &M, address: &[F], cycle: &[F]) -> F
+pub(crate) fn value_of<F: Field, M: Listed<F>>(
+    sizes: Sizes,
+    inc: &M,
+    address: &[F],
+    cycle: &[F],
+) -> F
     requires fits { (M.Committed.table inc.now).variables ≡ k sizes + sizes.t }
     requires address { length address.now ≡ k sizes }
     requires cycle { length cycle.now ≡ sizes.t }

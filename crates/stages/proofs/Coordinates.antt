@@ -44,9 +44,9 @@ module _ {F : Type 0} (f : FieldOf F) where
     length-point = length-append r (x ∷ corner f left index) ∙ omega (arith, length-corner left index)
 
     -- a list with the point's coordinates at its first places
-    pub filled_point : (ys : List F) (n i : ℕ) → n ≡ length r + 1 + left → n ≤ i → n ≤ length ys
-        → ((j : ℕ) → j < i → get_or ys j f.zero ≡ get_or point j f.zero) → take n ys ≡ point
-    filled_point ys n i e h k same =
+    pub filled_point : (ys : List F) (n : ℕ) → n ≡ length r + 1 + left → n ≤ length ys
+        → ((j : ℕ) → j < n → get_or ys j f.zero ≡ get_or point j f.zero) → take n ys ≡ point
+    filled_point ys n e k same =
         let l : length (take n ys) ≡ n = length-take n ys ∙ min-eq_left k in
         ext_get_or f.zero (take n ys) point (l ∙ e ∙ sym length-point)
         (λ j below. get_or-take n ys j f.zero (omega arith) ∙ same j (omega arith))

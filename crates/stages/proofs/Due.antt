@@ -5,12 +5,10 @@ use Rattle.std.proofs.lemmas.Option.{slice_get-get_or}
 use Rattle.std.proofs.lemmas.Bool.{le-leb, lt-leb, ltb-false, cond-true, cond-false, and_from, and_left, and_right, cases_Bool}
 use Rattle.fields.specs.Fields.{FieldOf}
 use Rattle.fields.specs.declared.refusal.Refusal.TheVariants.{TooShort, TablesDoNotFit}
-use Rattle.tables.specs.declared.size.Sizes.{Sizes}
 use Rattle.rounds.specs.Polynomials.{padded}
 use Rattle.rounds.specs.Accumulators.{most_coefficients, kept, written, write_answer}
 use Rattle.rounds.proofs.Padding.{padding}
 use Rattle.stages.proofs.RoundTerms.{terms_add_up}
-use Rattle.stages.specs.declared.plan.Kind.{Kind}
 use Rattle.stages.specs.declared.plan.Stage.{Stage}
 use Rattle.stages.specs.declared.plan.Stage.TheVariants.{Value}
 use Rattle.stages.specs.declared.plan.Plan.{Plan}
@@ -23,10 +21,6 @@ use Rattle.stages.specs.Due.{point_size, message_from, message_at, message_of_pl
 use Rattle.stages.proofs.RoundBounds.{bound_most}
 use Rattle.stages.proofs.Places.{Among, at_place}
 use Rattle.stages.proofs.Planned.{planned, point_before_value}
-
--- a plan of the kind
-abbrev pub plan_with : Sizes → Kind → Plan
-plan_with s kind = record { kind = kind; sizes = s }
 
 -- the terms of a round at all corners add up to its message
 message_by_terms : {F : Type 0} → TermsAddUp F
@@ -77,6 +71,10 @@ module _ {F : Type 0} (f : FieldOf F) (p : Plan) (m : Memory F) (challenges : Li
       (is ∙ ap (λ d. terms d before r left) is_drawn
       ∙ ap (λ b. terms (slice start own challenges) b r left) is_before
       ∙ ap₂ (terms (slice start own challenges) (slice (start - point_size p) start challenges)) is_r left_is)
+
+-- a polynomial begins with the message of stage g
+abbrev pub Begins : {F : Type 0} → FieldOf F → ℕ → Stage → List F → Plan → Memory F → List F → Type 0
+Begins f start g q p m challenges = padded f (length (message_from f p m challenges start g)) q ≡ message_from f p m challenges start g
 
 -- a round that is due at a count: the stage and the round of its place, and the round's bound
 pub record RoundDue (p : Plan) (count : ℕ) (at : ℕ × ℕ) (g : Stage) (bound : ℕ) : Type 0 where
@@ -227,34 +225,25 @@ module _ {F : Type 0} (f : FieldOf F) (p : Plan) (m : Memory F) (challenges : Li
 
   -- the polynomial that is written begins with the message from the start that the code has
   pub message_made : (coefficients : List F) (start : ℕ) → bound < length output → fit ≡ true → start ≡ challenges_before p (at.0 - 1)
-      → padded f (length (message_from f p m challenges start g)) coefficients ≡ message_from f p m challenges start g
+      → Begins f start g coefficients p m challenges
       → (write_answer f (bound + 1) output ≡ message_answer fit output (due_message f p m challenges))
       × (written f (bound + 1) coefficients output ≡ message_output fit output (due_message f p m challenges))
   message_made coefficients start h fits start_is begins =
       let room : bound + 1 ≤ length output = omega arith in
       let r = made fit output owed (due_message f p m challenges) owed_is (omega (arith, owed-length)) fits in
-      let owed_begins = subst (λ n. padded f (length (message_from f p m challenges n g)) coefficients ≡ message_from f p m challenges n g) start_is begins in (
+      let owed_begins = subst (λ n. Begins f n g coefficients p m challenges) start_is begins in (
         written_answer f owed coefficients output (bound + 1) owed-length room ∙ sym r.0,
         message-written f owed coefficients output (bound + 1) owed-length room owed_begins ∙ sym r.1,
       )
 
--- the same by what the code finds, at the kind that it has of the tables
-module _ (s : Sizes) (kind kind' : Kind) (same : kind' ≡ kind) where
-  abbrev found : Plan
-  found = plan_with s kind'
-
-  pub draws-found : (g : Stage) (n : ℕ) → n ≡ draws found g → n ≡ draws (plan_with s kind) g
-  draws-found g n is = is ∙ ap (λ x. draws (plan_with s x) g) same
-
-  pub rounds-found : (g : Stage) (n : ℕ) → n ≡ rounds found g → n ≡ rounds (plan_with s kind) g
-  rounds-found g n is = is ∙ ap (λ x. rounds (plan_with s x) g) same
-
-  pub round_found : (count : ℕ) (at : ℕ × ℕ) (g : Stage) (bound : ℕ) → at ≡ place found count → Some g ≡ stage_at found at.0 → Some bound ≡ bound_at found g at.1
-      → RoundDue (plan_with s kind) count at g bound
+-- the same by what the code finds, at the plan that it has
+module _ (found p : Plan) (same : found ≡ p) where
+  pub round_found : (count : ℕ) (at : ℕ × ℕ) (g : Stage) (bound : ℕ) → at ≡ place found count → stage_at found at.0 ≡ Some g → bound_at found g at.1 ≡ Some bound
+      → RoundDue p count at g bound
   round_found count at g bound placed stage bounded =
-      subst (λ x. RoundDue (plan_with s x) count at g bound) same (round_due found count g at bound (sym placed) (sym stage) (sym bounded))
+      subst (λ x. RoundDue x count at g bound) same (round_due found count g at bound (sym placed) stage bounded)
 
   pub no_message_found : {F : Type 0} (f : FieldOf F) (m : Memory F) (challenges : List F) (at : ℕ × ℕ) (g : Stage)
-      → at ≡ place found (length challenges) → Some g ≡ stage_at found at.0 → None ≡ bound_at found g at.1 → due_message f (plan_with s kind) m challenges ≡ None
+      → at ≡ place found (length challenges) → stage_at found at.0 ≡ Some g → bound_at found g at.1 ≡ None → due_message f p m challenges ≡ None
   no_message_found f m challenges at g placed stage bounded =
-      subst (λ x. due_message f (plan_with s x) m challenges ≡ None) same (no_message_due f found m challenges at g (sym placed) (sym stage) (sym bounded))
+      subst (λ x. due_message f x m challenges ≡ None) same (no_message_due f found m challenges at g (sym placed) stage bounded)

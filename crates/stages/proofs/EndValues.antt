@@ -3,7 +3,6 @@ use Rattle.std.proofs.Common.{◌≡◌, ℕ, zero, suc, ◌+◌, ◌*◌, ◌<�
 use Rattle.std.specs.List.{slice_get}
 use Rattle.std.proofs.lemmas.Bool.{eqb-true, and_parts, or_cases, or_left, or_right, cases_lt, false≢true}
 use Rattle.tables.specs.Limits.{most_variables}
-use Rattle.tables.specs.declared.size.Sizes.{Sizes}
 use Rattle.stages.specs.declared.plan.Kind.{Kind}
 use Rattle.stages.specs.declared.plan.Kind.TheVariants.{Shout, Twist}
 use Rattle.stages.specs.declared.plan.Stage.{Stage}
@@ -14,7 +13,6 @@ use Rattle.stages.specs.Due.{point_size, asks, some_below, asks_here, asks_at, e
 use Rattle.stages.proofs.Stages.{rounds_bits, rounds_row, rounds_read, rounds_write, rounds-value}
 use Rattle.stages.proofs.RoundBounds.{limits}
 use Rattle.stages.proofs.Places.{before-suc}
-use Rattle.stages.proofs.Due.{plan_with}
 
 pub some_found : (test : ℕ → Bool) (n i : ℕ) → i < n → test i ≡ true → some_below test n ≡ true
 some_found test zero i h passes = absurd (omega arith)
@@ -65,7 +63,3 @@ module _ (p : Plan) where
       by i (Some g) is h =
           let both = and_parts (asks p.kind g) (eqb (challenges_before p (suc i)) count) h in
           omega (arith, asked_rounds p.kind g both.0, eqb-true (challenges_before p (suc i)) count both.1, before-suc p i g is)
-
--- at the kind that the code has of the tables
-pub end_found : (s : Sizes) (kind kind' : Kind) → kind' ≡ kind → (count : ℕ) (r : Bool) → r ≡ end_value_due (plan_with s kind') count → r ≡ true → end_value_due (plan_with s kind) count ≡ true
-end_found s kind kind' same count r is passes = sym (ap (λ x. end_value_due (plan_with s x) count) same) ∙ sym is ∙ passes

@@ -1,29 +1,33 @@
 -- Chunk tables that fit, one after another.
-use Rattle.std.proofs.Common.{◌≡◌, ℕ, zero, suc, ◌+◌, ◌<◌, ◌≤◌, true, false, ◌&&◌, eqb, List, [], ◌∷◌, map, length, get_or, drop, sym, ap, ◌∙◌, ap₂, add-one, arith, drop-cons}
+use Rattle.std.proofs.Common.{◌≡◌, ◌↔◌, ℕ, zero, suc, ◌+◌, ◌<◌, Bool, true, false, ◌&&◌, eqb, List, [], ◌∷◌, map, length, get_or, sym, refl, ap, ◌∙◌, arith}
 use lib.ListN.{length-map}
-use Rattle.std.proofs.lemmas.Bool.{eq-eqb, ne_eqb, eqb-true, and_left, and_parts}
-use Rattle.std.proofs.lemmas.List.{drop_all}
+use Rattle.std.specs.List.{All}
+use Rattle.std.proofs.lemmas.Bool.{eq-eqb, ne_eqb, eqb-true, and_left, and_from, and_parts}
 use Rattle.tables.specs.Tables.{Table}
 use Rattle.tables.specs.declared.size.Sizes.{Sizes}
 use Rattle.stages.specs.Memory.{chunk_at}
 use Rattle.stages.specs.Models.{all_have, chunks_fit}
 
 module _ {F A : Type 0} (e : A → Table F) (xs : List A) where
-  drop_read : (i : ℕ) (x : A) → i < length xs → x ≡ get_or xs i x → drop i xs ≡ x ∷ drop (i + 1) xs
-  drop_read i x h is = drop-cons xs i x h ∙ ap₂ ◌∷◌ (sym is) (sym (ap (λ n. drop n xs) (add-one i)))
+  -- each table has n variables just where the test of all passes
+  have_each : (n : ℕ) (xs : List A) → all_have n (map e xs) ≡ true → All (λ x. (e x).variables ≡ n) xs
+  have_each n [] h k d below = absurd (omega arith)
+  have_each n (y ∷ xs) h zero d below = eqb-true (e y).variables n (and_parts (eqb (e y).variables n) (all_have n (map e xs)) h).0
+  have_each n (y ∷ xs) h (suc k) d below = have_each n xs (and_parts (eqb (e y).variables n) (all_have n (map e xs)) h).1 k d (omega arith)
 
-  module _ (n i : ℕ) (x : A) (h : i < length xs) (is : x ≡ get_or xs i x) where
-    here : all_have n (map e (drop i xs)) ≡ (eqb (e x).variables n && all_have n (map e (drop (i + 1) xs)))
-    here = ap (λ ys. all_have n (map e ys)) (drop_read i x h is)
+  each_have : (n : ℕ) (xs : List A) → All (λ x. (e x).variables ≡ n) xs → all_have n (map e xs) ≡ true
+  each_have n [] all = refl
+  each_have n (y ∷ xs) all =
+      and_from (eqb (e y).variables n) (all_have n (map e xs)) (eq-eqb (e y).variables n (all 0 y (omega arith)))
+      (each_have n xs (λ k d below. all (suc k) d (omega arith)))
 
-    pub fits_on : (e x).variables ≡ n → all_have n (map e (drop i xs)) ≡ all_have n (map e (drop (i + 1) xs))
-    fits_on q = here ∙ ap (λ b. b && all_have n (map e (drop (i + 1) xs))) (eq-eqb (e x).variables n q)
+  same_tests : (a b : Bool) → (a ≡ true → b ≡ true) → (b ≡ true → a ≡ true) → a ≡ b
+  same_tests true b f g = sym (f refl)
+  same_tests false true f g = g refl
+  same_tests false false f g = refl
 
-    pub fits_not : ((e x).variables ≡ n → ⊥) → all_have n (map e (drop i xs)) ≡ false
-    fits_not q = here ∙ and_left (eqb (e x).variables n) (all_have n (map e (drop (i + 1) xs))) (ne_eqb (e x).variables n q)
-
-  pub fits_end : (n i : ℕ) → length xs ≤ i → all_have n (map e (drop i xs)) ≡ true
-  fits_end n i h = ap (λ ys. all_have n (map e ys)) (drop_all i xs h)
+  pub fits_each : (n : ℕ) (b : Bool) → (b ≡ true ↔ All (λ x. (e x).variables ≡ n) xs) → b ≡ all_have n (map e xs)
+  fits_each n b is = same_tests b (all_have n (map e xs)) (λ h. each_have n xs (is.0 h)) (λ h. is.1 (have_each n xs h))
 
   pub wrong_count : (s : Sizes) → (length xs ≡ s.d → ⊥) → chunks_fit s (map e xs) ≡ false
   wrong_count s q =
@@ -39,14 +43,7 @@ module _ {F A : Type 0} (e : A → Table F) (xs : List A) where
 
   pub fits_variables : (s : Sizes) → chunks_fit s (map e xs) ≡ true → (i : ℕ) (x : A) → i < length xs → x ≡ get_or xs i x → (e x).variables ≡ s.c + s.t
   fits_variables s fit i x h is =
-      each xs i x (and_parts (eqb (length (map e xs)) s.d) (all_have (s.c + s.t) (map e xs)) fit).1 h is
-    where
-      each : (xs : List A) (i : ℕ) (x : A) → all_have (s.c + s.t) (map e xs) ≡ true → i < length xs → x ≡ get_or xs i x → (e x).variables ≡ s.c + s.t
-      each [] i x all h is = absurd (omega arith)
-      each (y ∷ xs) zero x all h is =
-          ap (λ z. (e z).variables) is ∙ eqb-true (e y).variables (s.c + s.t) (and_parts (eqb (e y).variables (s.c + s.t)) (all_have (s.c + s.t) (map e xs)) all).0
-      each (y ∷ xs) (suc i) x all h is =
-          each xs i x (and_parts (eqb (e y).variables (s.c + s.t)) (all_have (s.c + s.t) (map e xs)) all).1 (omega arith) is
+      ap (λ y. (e y).variables) is ∙ have_each (s.c + s.t) xs (and_parts (eqb (length (map e xs)) s.d) (all_have (s.c + s.t) (map e xs)) fit).1 i x h
 
   -- the entries of a chunk table by its place
   pub entries_at : (i : ℕ) (x : A) → i < length xs → x ≡ get_or xs i x → chunk_at (map (λ m. (e m).entries) xs) (suc i) ≡ (e x).entries

@@ -20,9 +20,13 @@ module _ {F : Type 0} (f : FieldOf F) where
   pub kept_less : (p P q Q : List F) → p ≡ kept f P → q ≡ kept f Q → less f (polynomials f) p q ≡ kept f (less f (polynomials f) P Q)
   kept_less p P q Q e h = ap₂ (less f (polynomials f)) e h ∙ sym ((padding f most_coefficients).on_less P Q)
 
+  -- a product, by another term for its second factor
+  pub times_is : (r p P l L : List F) → p ≡ kept f P → l ≡ L → r ≡ kept f (poly_mul f p l) → r ≡ kept f (poly_mul f P L)
+  times_is r p P l L e same is = is ∙ ap (λ q. kept f (poly_mul f p q)) same ∙ kept-times p P L e
+
   -- a product with a line, by other terms for its ends
   pub times-line_is : (r p P : List F) (a b x y : F) → p ≡ kept f P → a ≡ x → b ≡ y → r ≡ kept f (poly_mul f p (line f a b)) → r ≡ kept f (poly_mul f P (line f x y))
-  times-line_is r p P a b x y e h k is = is ∙ ap₂ (λ u v. kept f (poly_mul f p (line f u v))) h k ∙ kept-times p P (line f x y) e
+  times-line_is r p P a b x y e h k is = times_is r p P (line f a b) (line f x y) e (ap₂ (line f) h k) is
 
   pub line_is : (r : List F) (a b x y : F) → a ≡ x → b ≡ y → r ≡ kept f (line f a b) → r ≡ kept f (line f x y)
   line_is r a b x y h k is = is ∙ ap₂ (λ u v. kept f (line f u v)) h k

@@ -7,6 +7,7 @@ pub mod Fits
 pub mod Coordinates
 pub mod Halving
 pub mod Kept
+pub mod Room
 pub mod Agreement
 pub mod RoundBounds
 pub mod Degrees

@@ -51,6 +51,11 @@ nth_chunks table n i rest h =
 pub nth_after_chunks : (table : ℕ → ChunkTable) (n i j : ℕ) (rest : List Stage) → 2 * n + j ≡ i → slice_get (chunk_stages table n ++ rest) i ≡ slice_get rest j
 nth_after_chunks table n i j rest e = nth_append_right (chunk_stages table n) rest i j (omega (arith, length-chunk_stages table n))
 
+-- the stages of the reads' chunk tables come first
+pub nth_reads : (kind : Kind) (d i : ℕ) → i < 2 * d → slice_get (stages_of kind d) i ≡ Some (chunk_stage i (Ra (i / 2 + 1)))
+nth_reads Shout d i h = nth_chunks Ra d i (Read ∷ []) h
+nth_reads Twist d i h = nth_chunks Ra d i (chunk_stages Wa d ++ memory_stages) h
+
 pub length-shout : (d : ℕ) → length (stages_of Shout d) ≡ 2 * d + 1
 length-shout d = length-append (chunk_stages Ra d) (Read ∷ []) ∙ omega (arith, length-chunk_stages Ra d)
 

@@ -1,6 +1,6 @@
 -- A stage's summand along the variable of a round, as a product of lines: each factor by its values at two points
 -- that differ in that variable alone, which is zero at the low point and one at the high one.
-use Rattle.std.specs.Prelude.{◌≡◌, ℕ, zero, suc, ◌-◌, ◌^◌, ◌<◌, List, [], ◌∷◌, ◌++◌, length, take, drop, slice_index}
+use Rattle.std.specs.Prelude.{◌≡◌, ℕ, zero, suc, ◌+◌, ◌-◌, ◌^◌, ◌<◌, List, [], ◌∷◌, ◌++◌, length, take, drop, slice_index}
 use Rattle.fields.specs.Fields.{FieldOf, elements}
 use Rattle.tables.specs.Formulas.{less, eq, lt, extension}
 use Rattle.tables.specs.Sizes.{k}
@@ -12,7 +12,7 @@ use Rattle.stages.specs.declared.plan.Stage.{Stage}
 use Rattle.stages.specs.declared.plan.Stage.TheVariants.{Bits, Row, Read, Write, Value}
 use Rattle.stages.specs.declared.plan.Plan.{Plan}
 use Rattle.stages.specs.Memory.{Memory, chunk_at, chunk_table}
-use Rattle.stages.specs.Plan.{bounds, rounds}
+use Rattle.stages.specs.Plan.{Planned, draws, bounds, rounds}
 use Rattle.stages.specs.Messages.{message}
 use Rattle.stages.specs.Formulas.{chunk_value, chunk_part, inc_value, address_of, cycle_of, held_at}
 
@@ -22,10 +22,13 @@ module _ {F : Type 0} (f : FieldOf F) (low high : List F) where
   line_of factor = line f (factor low) (factor high)
 
 module _ {F : Type 0} (f : FieldOf F) (s : Sizes) where
-  -- a chunk table at its chunk of an address and at the cycle; the first has the number 0
+  -- a chunk table at its chunk of a point's address and at the point's cycle; the first has the number 0
+  abbrev pub chunk_at_point : List F → ℕ → List F → F
+  chunk_at_point table n point =
+      chunk_value f s (elements f) table (chunk_part f s (elements f) n (address_of f s (elements f) point) ++ cycle_of f s (elements f) point)
+
   abbrev pub chunk_factor : List (List F) → ℕ → List F → F
-  chunk_factor tables n point =
-      chunk_value f s (elements f) (chunk_at tables (suc n)) (chunk_part f s (elements f) n (address_of f s (elements f) point) ++ cycle_of f s (elements f) point)
+  chunk_factor tables n point = chunk_at_point (chunk_at tables (suc n)) n point
 
   -- a polynomial times the lines of the first n chunk tables
   abbrev pub times_chunks : List F → List F → List (List F) → ℕ → List F → List F
@@ -71,6 +74,14 @@ module _ {F : Type 0} (f : FieldOf F) (p : Plan) (m : Memory F) where
   -- the term of a round at corner number i of the variables after the round's own
   abbrev pub corner_term : Stage → List F → List F → List F → ℕ → ℕ → List F
   corner_term g draws before r left i = term (r ++ (f.zero ∷ corner f left i)) (r ++ (f.one ∷ corner f left i)) g draws before
+
+-- what a round has: a stage of the plan and its draws, a point before it if it is a value stage, and the challenges r of the rounds
+-- before, with so many variables left after the round's own
+pub record RoundOf {F : Type 0} (p : Plan) (g : Stage) (drawn before r : List F) (left : ℕ) : Type 0 where
+  pub planned : Planned p.kind p.sizes.d g
+  pub draws_are : length drawn ≡ draws p g
+  pub point_is : g ≡ Value → length before ≡ k p.sizes + p.sizes.t
+  pub variables : length r + 1 + left ≡ rounds p g
 
 -- q 0 + q 1 + .. up to, and without, q n
 abbrev pub poly_sum : {F : Type 0} → FieldOf F → ℕ → (ℕ → List F) → List F

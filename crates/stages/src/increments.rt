@@ -24,10 +24,7 @@ fn increment_at<F: Field, M: Listed<F>>(inc: &M, index: usize) -> F
     requires { index < 2 ^ (M.Committed.table inc.now).variables }
     ensures { result ≡ entry F.Field.field (M.Committed.table inc.now).entries index }
 {
-    match inc.entry(index) {
-        Ok(value) => value,
-        Err(_) => unreachable(),
-    }
+    inc.entry(index).unwrap()
 }
 
 // The sums over the `count` increments from `start` on, by halves of the cycles.
@@ -42,19 +39,19 @@ fn cell_sums<F: Field, M: Listed<F>>(
     ensures all { result.all ≡ cube_sum F.Field.field (elements F.Field.field) (length cycle.now) (λ i b. entry F.Field.field (M.Committed.table inc.now).entries (start + i)) }
     ensures before { result.before ≡ cube_sum F.Field.field (elements F.Field.field) (length cycle.now) (λ i b. F.Field.field.mul (entry F.Field.field (M.Committed.table inc.now).entries (start + i)) (lt F.Field.field (elements F.Field.field) b cycle.now)) }
 {
-    if cycle.len() == 0 {
+    let Some((x, rest)) = cycle.split_first() else {
         return CellSums {
             all: increment_at(inc, start),
             before: F::zero_element(),
         };
-    }
+    };
     let half = count / 2;
-    let low = cell_sums(inc, start, half, &cycle[1..]);
-    let high = cell_sums(inc, start + half, half, &cycle[1..]);
+    let low = cell_sums(inc, start, half, rest);
+    let high = cell_sums(inc, start + half, half, rest);
     let more = low.all.plus(high.before).minus(low.before);
     CellSums {
         all: low.all.plus(high.all),
-        before: low.before.plus(cycle[0].times(more)),
+        before: low.before.plus(x.times(more)),
     }
 }
 
@@ -70,17 +67,22 @@ fn value_from<F: Field, M: Listed<F>>(
     requires inside { start + count ≤ 2 ^ (M.Committed.table inc.now).variables }
     ensures { result ≡ cube_sum F.Field.field (elements F.Field.field) (length cycle.now) (λ i b. F.Field.field.mul (extension F.Field.field (elements F.Field.field) (length (address.now ++ cycle.now)) (λ n. entry F.Field.field (M.Committed.table inc.now).entries (start + n)) (address.now ++ b)) (lt F.Field.field (elements F.Field.field) b cycle.now)) }
 {
-    if address.len() == 0 {
+    let Some((x, rest)) = address.split_first() else {
         return cell_sums(inc, start, count, cycle).before;
-    }
+    };
     let half = count / 2;
-    let low = value_from(inc, start, half, &address[1..], cycle);
-    let high = value_from(inc, start + half, half, &address[1..], cycle);
-    low.plus(address[0].times(high.minus(low)))
+    let low = value_from(inc, start, half, rest, cycle);
+    let high = value_from(inc, start + half, half, rest, cycle);
+    low.plus(x.times(high.minus(low)))
 }
 
 // Val at an address and a cycle that fit the increments.
-fn value_of<F: Field, M: Listed<F>>(sizes: Sizes, inc: &M, address: &[F], cycle: &[F]) -> F
+pub(crate) fn value_of<F: Field, M: Listed<F>>(
+    sizes: Sizes,
+    inc: &M,
+    address: &[F],
+    cycle: &[F],
+) -> F
     requires fits { (M.Committed.table inc.now).variables ≡ k sizes + sizes.t }
     requires address { length address.now ≡ k sizes }
     requires cycle { length cycle.now ≡ sizes.t }
@@ -98,8 +100,7 @@ pub fn value_at<F: Field, M: Listed<F>>(
 ) -> Result<F, Refusal>
     ensures { result ≡ value_answer F.Field.field sizes (M.Committed.table inc.now) address.now cycle.now }
 {
-    let k = sizes.address_bits();
-    let t = sizes.cycle_bits();
+    let (k, t) = (sizes.address_bits(), sizes.cycle_bits());
     if inc.vars() != k + t {
         return Err(Refusal::TablesDoNotFit);
     }

@@ -1,8 +1,8 @@
 // The tables of a job, borrowed, and whether they fit its sizes.
 ghost use Rattle.std.specs.Prelude.{◌≡◌, map};
-ghost use Rattle.stages.specs.Models.{kind_of, chunks_fit, tables_fit};
+ghost use Rattle.stages.specs.Models.{kind_of, plan_of, chunks_fit, tables_fit};
 
-use crate::plan::Kind;
+use crate::plan::{Kind, Plan};
 use fields::field::Field;
 use tables::size::Sizes;
 use tables::table::Committed;
@@ -28,16 +28,8 @@ pub enum Tables<'a, A, M, V> {
 fn chunks_fit<F: Field, A: Committed<F>>(sizes: Sizes, tables: &[A]) -> bool
     ensures { result ≡ chunks_fit sizes (map A.Committed.table tables.now) }
 {
-    if tables.len() != sizes.chunks() {
-        return false;
-    }
-    let variables = sizes.chunk_bits() + sizes.cycle_bits();
-    for table in tables {
-        if table.vars() != variables {
-            return false;
-        }
-    }
-    true
+    let variables = sizes.chunk_variables();
+    tables.len() == sizes.chunks() && tables.iter().all(|table| table.vars() == variables)
 }
 
 impl<'a, A, M, V> Tables<'a, A, M, V> {
@@ -45,14 +37,18 @@ impl<'a, A, M, V> Tables<'a, A, M, V> {
         ensures { result ≡ kind_of self.now }
     {
         match self {
-            Tables::Shout { ra, val, rv } => Kind::Shout,
-            Tables::Twist {
-                ra,
-                wa,
-                inc,
-                rv,
-                wv,
-            } => Kind::Twist,
+            Tables::Shout { .. } => Kind::Shout,
+            Tables::Twist { .. } => Kind::Twist,
+        }
+    }
+
+    // The plan of the job, by its sizes.
+    pub(crate) fn plan(&self, sizes: Sizes) -> Plan
+        ensures { result ≡ plan_of sizes self.now }
+    {
+        Plan {
+            kind: self.kind(),
+            sizes,
         }
     }
 }

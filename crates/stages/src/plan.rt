@@ -3,24 +3,25 @@ ghost use Rattle.std.specs.Prelude.{◌≡◌, ◌%◌, ◌≤◌, length, if◌
 ghost use Rattle.std.specs.List.{slice_get};
 ghost use Rattle.stages.specs.Plan.{memory_stages, read_degree, stages, stage_at, draws, rounds, bound_at, challenge_count, closed_form};
 ghost use Rattle.stages.specs.Places.{place};
+ghost use Rattle.stages.specs.Due.{point_size};
 
 use tables::size::Sizes;
 
 // Shout checks a read-only memory; Twist one with a read and a write in each cycle.
-#[derive(Clone, Copy)]
+#[derive(Clone, Copy, PartialEq, Eq, Debug)]
 pub enum Kind {
     Shout,
     Twist,
 }
 
 // The one-hot table of a chunk of the read or the write addresses, by the number of the chunk, from 1.
-#[derive(Clone, Copy)]
+#[derive(Clone, Copy, PartialEq, Eq, Debug)]
 pub enum ChunkTable {
     Ra(usize),
     Wa(usize),
 }
 
-#[derive(Clone, Copy)]
+#[derive(Clone, Copy, PartialEq, Eq, Debug)]
 pub enum Stage {
     // Each entry of the table is zero or one.
     Bits(ChunkTable),
@@ -55,32 +56,27 @@ impl Plan {
     pub fn stage_at(self, number: usize) -> Option<Stage>
         ensures { result ≡ stage_at self number }
     {
-        if number == 0 {
-            return None;
+        let index = number.checked_sub(1)?;
+        let chunk_stages = 2 * self.sizes.chunks();
+        if index < chunk_stages {
+            return Some(chunk_stage(index, ChunkTable::Ra(index / 2 + 1)));
         }
-        let index = number - 1;
-        let d = self.sizes.chunks();
+        let index = index - chunk_stages;
         match self.kind {
-            Kind::Shout => {
-                if index < 2 * d {
-                    Some(chunk_stage(index, ChunkTable::Ra(index / 2 + 1)))
-                } else if index == 2 * d {
-                    Some(Stage::Read)
-                } else {
-                    None
-                }
+            Kind::Shout if index == 0 => Some(Stage::Read),
+            Kind::Shout => None,
+            Kind::Twist if index < chunk_stages => {
+                Some(chunk_stage(index, ChunkTable::Wa(index / 2 + 1)))
             }
-            Kind::Twist => {
-                if index < 2 * d {
-                    Some(chunk_stage(index, ChunkTable::Ra(index / 2 + 1)))
-                } else if index < 4 * d {
-                    let index = index - 2 * d;
-                    Some(chunk_stage(index, ChunkTable::Wa(index / 2 + 1)))
-                } else {
-                    last_stage(index - 4 * d)
-                }
-            }
+            Kind::Twist => last_stage(index - chunk_stages),
         }
+    }
+
+    // The coordinates of an address and a cycle.
+    pub(crate) fn point_size(self) -> usize
+        ensures { result ≡ point_size self }
+    {
+        self.sizes.address_bits() + self.sizes.cycle_bits()
     }
 
     // The draws that a stage takes before its rounds.
@@ -89,9 +85,9 @@ impl Plan {
     {
         let cycle_bits = self.sizes.cycle_bits();
         match stage {
-            Stage::Bits(_) => self.sizes.chunk_bits() + cycle_bits,
+            Stage::Bits(_) => self.sizes.chunk_variables(),
             Stage::Row(_) | Stage::Read => cycle_bits,
-            Stage::Write => self.sizes.address_bits() + cycle_bits,
+            Stage::Write => self.point_size(),
             Stage::Value => 0,
         }
     }
@@ -101,9 +97,9 @@ impl Plan {
     {
         let cycle_bits = self.sizes.cycle_bits();
         match stage {
-            Stage::Bits(_) => self.sizes.chunk_bits() + cycle_bits,
+            Stage::Bits(_) => self.sizes.chunk_variables(),
             Stage::Row(_) => self.sizes.chunk_bits(),
-            Stage::Read | Stage::Write => self.sizes.address_bits() + cycle_bits,
+            Stage::Read | Stage::Write => self.point_size(),
             Stage::Value => cycle_bits,
         }
     }
@@ -146,7 +142,7 @@ impl Plan {
         let d = self.sizes.chunks();
         let t = self.sizes.cycle_bits();
         let k = self.sizes.address_bits();
-        let chunk = self.sizes.chunk_bits() + t;
+        let chunk = self.sizes.chunk_variables();
         match self.kind {
             Kind::Shout => 3 * d * chunk + k + 2 * t,
             Kind::Twist => 6 * d * chunk + 3 * k + 6 * t,
@@ -159,6 +155,7 @@ impl Plan {
         ensures place { result ≡ place self count }
         ensures past { challenge_count self ≤ count → result ≡ (0, 0) }
     {
+        // The pair with zeros for no place, and the labelled loop that is left with it, are laid down.
         let mut left = count;
         let mut number = 1;
         'walk: loop {

@@ -1,4 +1,4 @@
-use Rattle.std.proofs.Common.{◌≡◌, ℕ, suc, ◌+◌, false, ◌&&◌, eqb, length, sym, ap, ◌∙◌, ⊎_elim, add-one, arith}
+use Rattle.std.proofs.Common.{IsSome, subst, refl, ◌≡◌, suc, ◌+◌, false, ◌&&◌, eqb, length, sym, ap, ◌∙◌, ⊎_elim, add-one, arith}
 use Rattle.std.proofs.lemmas.Option.{slice_get-get_or}
 use Rattle.std.proofs.lemmas.Bool.{eq-eqb, ne_eqb, and_from, and_left, and_right, or_from}
 use Rattle.stages.specs.declared.plan.Stage.TheVariants.{Read}
@@ -8,32 +8,30 @@ use Rattle.stages.proofs.Stages.{few_stages}
 use Rattle.stages.proofs.EndValues.{asks_of, few_challenges, some_found, stage_of_turn, end_of_turn}
 use Rattle.stages.proofs.prover.end_value_due.Goals as goal
 
-pub unreachable-requires : goal.unreachable-requires
-unreachable-requires c =
+pub unwrap-stage-requires : goal.unwrap-stage-requires
+unwrap-stage-requires c =
     let p = c.args.plan in
     let i = c.loop-index.index in
-    let some = sym (slice_get-get_or (stages p) i Read (omega (arith, c.stage_count-index-end.ensures))) ∙ ap (stage_at p) (sym (add-one i)) ∙ sym c.in_default.ensures in
-    let z : ◌≡◌ {A = ℕ} 0 1 = cc in
-    omega arith
+    subst IsSome (sym (c.stage_at.ensures ∙ ap (stage_at p) (add-one i) ∙ slice_get-get_or (stages p) i Read (omega (arith, c.stage_count-index-end.ensures)))) refl
 
 pub overflow_add-end : goal.overflow_add-end
-overflow_add-end c = omega (arith, few_challenges c.args.plan c.in-Some.stage, c.draws.ensures, c.rounds.ensures)
+overflow_add-end c = omega (arith, few_challenges c.args.plan c.unwrap-stage.result, c.draws.ensures, c.rounds.ensures)
 
 pub overflow_add-end-in-loop-index : goal.overflow_add-end-in-loop-index
 overflow_add-end-in-loop-index c =
-    omega (arith, few_challenges c.args.plan c.in-Some.stage, few_stages c.args.plan, c.loop-index.invariant.1, c.draws.ensures, c.rounds.ensures, c.stage_count-index-end.ensures, c.loop-index-test.true)
+    omega (arith, few_challenges c.args.plan c.unwrap-stage.result, few_stages c.args.plan, c.loop-index.invariant.1, c.draws.ensures, c.rounds.ensures, c.stage_count-index-end.ensures, c.loop-index-test.true)
 
 pub returns-then-end-count : goal.returns-then-end-count
 returns-then-end-count c =
     let p = c.args.plan in
     let i = c.loop-index.index in
-    let here = stage_of_turn p i c.in-Some.stage c.in-Some.ensures in
+    let here = stage_of_turn p i c.unwrap-stage.result (sym c.unwrap-stage.ensures ∙ c.stage_at.ensures) in
     let end_is : c.loop-index.end + (c.draws.result + c.rounds.result) ≡ challenges_before c.args.plan (suc c.loop-index.index) =
-    end_of_turn p i c.loop-index.end c.draws.result c.rounds.result c.in-Some.stage c.in-Some.ensures c.loop-index.invariant.0 c.draws.ensures c.rounds.ensures in
+    end_of_turn p i c.loop-index.end c.draws.result c.rounds.result c.unwrap-stage.result (sym c.unwrap-stage.ensures ∙ c.stage_at.ensures) c.loop-index.invariant.0 c.draws.ensures c.rounds.ensures in
     sym
     (some_found (asks_at p c.args.count) (length (stages p)) i (omega (arith, c.stage_count-index-end.ensures))
-    (asks_of p c.args.count i c.in-Some.stage here
-    ∙ and_from (asks p.kind c.in-Some.stage) (eqb (challenges_before p (suc i)) c.args.count) (sym c.if-asks.ensures)
+    (asks_of p c.args.count i c.unwrap-stage.result here
+    ∙ and_from (asks p.kind c.unwrap-stage.result) (eqb (challenges_before p (suc i)) c.args.count) (sym c.if-asks.ensures)
     (eq-eqb (challenges_before p (suc i)) c.args.count (sym end_is ∙ c.if-end-count.true))))
 
 pub loop-index-preserved : goal.loop-index-preserved
@@ -41,11 +39,11 @@ loop-index-preserved c =
     let p = c.args.plan in
     let i = c.loop-index.index in
     let count = c.args.count in
-    let stage = c.in-Some.stage in
-    let here = stage_of_turn p i c.in-Some.stage c.in-Some.ensures in
+    let stage = c.unwrap-stage.result in
+    let here = stage_of_turn p i c.unwrap-stage.result (sym c.unwrap-stage.ensures ∙ c.stage_at.ensures) in
     let end_is : c.loop-index.end + (c.draws.result + c.rounds.result) ≡ challenges_before c.args.plan (suc c.loop-index.index) =
-    end_of_turn p i c.loop-index.end c.draws.result c.rounds.result c.in-Some.stage c.in-Some.ensures c.loop-index.invariant.0 c.draws.ensures c.rounds.ensures in
-    let passes_not : (asks c.args.plan.kind c.in-Some.stage && eqb (challenges_before c.args.plan (suc c.loop-index.index)) c.args.count) ≡ false =
+    end_of_turn p i c.loop-index.end c.draws.result c.rounds.result c.unwrap-stage.result (sym c.unwrap-stage.ensures ∙ c.stage_at.ensures) c.loop-index.invariant.0 c.draws.ensures c.rounds.ensures in
+    let passes_not : (asks c.args.plan.kind c.unwrap-stage.result && eqb (challenges_before c.args.plan (suc c.loop-index.index)) c.args.count) ≡ false =
     ⊎_elim
     (λ ends_not.
     and_right (asks p.kind stage) (eqb (challenges_before p (suc i)) count) (ne_eqb (challenges_before p (suc i)) count (λ e. ends_not.1 (end_is ∙ e))))

@@ -1,90 +1,103 @@
-use Rattle.std.proofs.Common.{◌≡◌, ◌-◌, length, sym, ap, ◌∙◌, arith}
+use Rattle.std.proofs.Common.{◌≡◌, ◌-◌, length, Err, sym, ap, ◌∙◌, subst, arith, rules}
+use Rattle.fields.specs.declared.refusal.Refusal.TheVariants.{TablesDoNotFit, NothingDue}
 use Rattle.rounds.specs.Accumulators.{coefficients}
 use Rattle.stages.specs.Models.{plan_of, tables_fit, memory}
-use Rattle.stages.specs.Plan.{draws, challenges_before}
-use Rattle.stages.specs.Due.{message_answer, message_output}
-use Rattle.stages.proofs.Due.{draws-found, round_found, no_message_found, short_output, unfit_tables, message_made}
+use Rattle.stages.specs.Plan.{Planned, draws, rounds, challenges_before}
+use Rattle.stages.specs.Due.{point_size, message_answer, message_output}
+use Rattle.stages.proofs.Due.{Begins, round_found, no_message_found, short_output, unfit_tables, message_made}
 use Rattle.stages.proofs.prover.make_message.Goals as goal
 
-pub returns-in_default-bound_at : goal.returns-in_default-bound_at
-returns-in_default-bound_at g c =
+pub returns-in_err-bound : goal.returns-in_err-bound
+returns-in_err-bound g c =
     let m = memory g.A.Committed.table g.M.Committed.table g.V.Committed.table c.args.tables.now in
     let fit = tables_fit g.A.Committed.table g.M.Committed.table g.V.Committed.table c.args.sizes c.args.tables.now in
     let none =
-    no_message_found c.args.sizes _ _ c.kind.ensures g.F.Field.field m c.args.challenges.now c.place-number.result c.in-Some.stage
-    c.place-number.ensures.place c.in-Some.ensures c.in_default-bound_at.ensures in
-    record { answer = sym (ap (message_answer fit c.args.output.now) none); output = sym (ap (message_output fit c.args.output.now) none) }
+    no_message_found c.plan-plan.result _ c.plan-plan.ensures g.F.Field.field m c.args.challenges.now c.place-number.result c.in_ok-stage.stage
+    c.place-number.ensures.place (sym c.stage_at.ensures ∙ c.in_ok-stage.ensures.ok_part) (sym c.bound_at.ensures ∙ c.in_err-bound.ensures.ok_part) in
+    let refused : c.from_residual-in_err-bound.result ≡ Err NothingDue = search rules in
+    record { answer = refused ∙ sym (ap (message_answer fit c.args.output.now) none); output = sym (ap (message_output fit c.args.output.now) none) }
 
 pub returns-then-output-bound : goal.returns-then-output-bound
 returns-then-output-bound g c =
-    let f = g.F.Field.field in
-    let p = plan_of c.args.sizes c.args.tables.now in
     let m = memory g.A.Committed.table g.M.Committed.table g.V.Committed.table c.args.tables.now in
     let fit = tables_fit g.A.Committed.table g.M.Committed.table g.V.Committed.table c.args.sizes c.args.tables.now in
     let due =
-    round_found c.args.sizes _ _ c.kind.ensures (length c.args.challenges.now) c.place-number.result c.in-Some.stage c.in-Some-bound_at.bound
-    c.place-number.ensures.place c.in-Some.ensures c.in-Some-bound_at.ensures in
-    let refused = short_output f p m c.args.challenges.now c.place-number.result c.in-Some.stage c.in-Some-bound_at.bound due fit c.args.output.now c.if-output-bound.true in
+    round_found c.plan-plan.result _ c.plan-plan.ensures (length c.args.challenges.now) c.place-number.result c.in_ok-stage.stage c.in_ok-bound.bound
+    c.place-number.ensures.place (sym c.stage_at.ensures ∙ c.in_ok-stage.ensures.ok_part) (sym c.bound_at.ensures ∙ c.in_ok-bound.ensures.ok_part) in
+    let refused = short_output g.F.Field.field (plan_of c.args.sizes c.args.tables.now) m c.args.challenges.now c.place-number.result c.in_ok-stage.stage c.in_ok-bound.bound due fit c.args.output.now c.if-output-bound.true in
     record { answer = refused.0; output = refused.1 }
 
-pub returns-then-not-tables_fit : goal.returns-then-not-tables_fit
-returns-then-not-tables_fit g c =
-    let f = g.F.Field.field in
-    let p = plan_of c.args.sizes c.args.tables.now in
+pub returns-in_err-prover : goal.returns-in_err-prover
+returns-in_err-prover g c =
     let m = memory g.A.Committed.table g.M.Committed.table g.V.Committed.table c.args.tables.now in
     let fit = tables_fit g.A.Committed.table g.M.Committed.table g.V.Committed.table c.args.sizes c.args.tables.now in
     let due =
-    round_found c.args.sizes _ _ c.kind.ensures (length c.args.challenges.now) c.place-number.result c.in-Some.stage c.in-Some-bound_at.bound
-    c.place-number.ensures.place c.in-Some.ensures c.in-Some-bound_at.ensures in
-    let refused = unfit_tables f p m c.args.challenges.now c.place-number.result c.in-Some.stage c.in-Some-bound_at.bound due fit c.args.output.now c.if-output-bound.false (sym c.tables_fit.ensures ∙ c.if-not-tables_fit.true) in
-    record { answer = refused.0; output = refused.1 }
+    round_found c.plan-plan.result _ c.plan-plan.ensures (length c.args.challenges.now) c.place-number.result c.in_ok-stage.stage c.in_ok-bound.bound
+    c.place-number.ensures.place (sym c.stage_at.ensures ∙ c.in_ok-stage.ensures.ok_part) (sym c.bound_at.ensures ∙ c.in_ok-bound.ensures.ok_part) in
+    let unfit = c.in_err-prover.ensures in
+    let refused : c.from_residual-in_err-prover.result ≡ Err TablesDoNotFit = search rules in
+    let answer = unfit_tables g.F.Field.field (plan_of c.args.sizes c.args.tables.now) m c.args.challenges.now c.place-number.result c.in_ok-stage.stage c.in_ok-bound.bound due fit c.args.output.now c.if-output-bound.false unfit.0 in
+    record { answer = refused ∙ answer.0; output = answer.1 }
 
 pub overflow_sub-start-2 : goal.overflow_sub-start-2
 overflow_sub-start-2 g c =
     let due =
-    round_found c.args.sizes _ _ c.kind.ensures (length c.args.challenges.now) c.place-number.result c.in-Some.stage c.in-Some-bound_at.bound
-    c.place-number.ensures.place c.in-Some.ensures c.in-Some-bound_at.ensures in
+    round_found c.plan-plan.result _ c.plan-plan.ensures (length c.args.challenges.now) c.place-number.result c.in_ok-stage.stage c.in_ok-bound.bound
+    c.place-number.ensures.place (sym c.stage_at.ensures ∙ c.in_ok-stage.ensures.ok_part) (sym c.bound_at.ensures ∙ c.in_ok-bound.ensures.ok_part) in
     omega (arith, due.count_is)
 
 pub overflow_sub-start-3 : goal.overflow_sub-start-3
 overflow_sub-start-3 g c =
     let due =
-    round_found c.args.sizes _ _ c.kind.ensures (length c.args.challenges.now) c.place-number.result c.in-Some.stage c.in-Some-bound_at.bound
-    c.place-number.ensures.place c.in-Some.ensures c.in-Some-bound_at.ensures in
-    let drawn : c.draws.result ≡ draws (plan_of c.args.sizes c.args.tables.now) c.in-Some.stage =
-    draws-found c.args.sizes _ _ c.kind.ensures c.in-Some.stage c.draws.result c.draws.ensures in
+    round_found c.plan-plan.result _ c.plan-plan.ensures (length c.args.challenges.now) c.place-number.result c.in_ok-stage.stage c.in_ok-bound.bound
+    c.place-number.ensures.place (sym c.stage_at.ensures ∙ c.in_ok-stage.ensures.ok_part) (sym c.bound_at.ensures ∙ c.in_ok-bound.ensures.ok_part) in
+    let drawn : c.draws.result ≡ draws (plan_of c.args.sizes c.args.tables.now) c.in_ok-stage.stage =
+    c.draws.ensures ∙ ap (λ p. draws p c.in_ok-stage.stage) c.plan-plan.ensures in
     omega (arith, due.count_is)
 
 pub round_polynomial-requires : goal.round_polynomial-requires
 round_polynomial-requires g c =
     let due =
-    round_found c.args.sizes _ _ c.kind.ensures (length c.args.challenges.now) c.place-number.result c.in-Some.stage c.in-Some-bound_at.bound
-    c.place-number.ensures.place c.in-Some.ensures c.in-Some-bound_at.ensures in
-    let drawn : c.draws.result ≡ draws (plan_of c.args.sizes c.args.tables.now) c.in-Some.stage =
-    draws-found c.args.sizes _ _ c.kind.ensures c.in-Some.stage c.draws.result c.draws.ensures in
+    round_found c.plan-plan.result _ c.plan-plan.ensures (length c.args.challenges.now) c.place-number.result c.in_ok-stage.stage c.in_ok-bound.bound
+    c.place-number.ensures.place (sym c.stage_at.ensures ∙ c.in_ok-stage.ensures.ok_part) (sym c.bound_at.ensures ∙ c.in_ok-bound.ensures.ok_part) in
+    let drawn : c.draws.result ≡ draws (plan_of c.args.sizes c.args.tables.now) c.in_ok-stage.stage =
+    c.draws.ensures ∙ ap (λ p. draws p c.in_ok-stage.stage) c.plan-plan.ensures in
+    let stage = c.in_ok-stage.stage in
+    let start = length c.args.challenges.now - (c.place-number.result.1 - 1) - c.draws.result in
+    let (fits, plan, tables, challenges) = c.in_ok-prover.ensures in
+    let at = sym plan in
+    let count = ap length challenges in
     record {
-      fit = sym c.tables_fit.ensures ∙ c.if-not-tables_fit.false;
-      planned = due.planned_stage;
-      before = λ value. omega (arith, due.point_before value, due.count_is);
-      drawn = omega (arith, due.count_is);
-      left = omega (arith, due.count_is, due.within);
+      planned = subst (λ p. Planned p.kind p.sizes.d stage) at due.planned_stage;
+      before = λ value. omega (arith, due.point_before value, due.count_is, ap point_size plan);
+      drawn = omega (arith, due.count_is, count, ap (λ p. draws p stage) plan);
+      left = omega (arith, due.count_is, due.within, count, ap (λ p. draws p stage) plan, ap (λ p. rounds p stage) plan);
     }
 
 pub returns : goal.returns
 returns g c =
     let f = g.F.Field.field in
-    let p = plan_of c.args.sizes c.args.tables.now in
-    let m = memory g.A.Committed.table g.M.Committed.table g.V.Committed.table c.args.tables.now in
+    let job = memory g.A.Committed.table g.M.Committed.table g.V.Committed.table in
     let fit = tables_fit g.A.Committed.table g.M.Committed.table g.V.Committed.table c.args.sizes c.args.tables.now in
+    let p = plan_of c.args.sizes c.args.tables.now in
+    let stage = c.in_ok-stage.stage in
+    let from = length c.args.challenges.now - (c.place-number.result.1 - 1) - c.draws.result in
+    let q = coefficients c.round_polynomial.result in
+    let made = c.in_ok-prover.prover in
     let due =
-    round_found c.args.sizes _ _ c.kind.ensures (length c.args.challenges.now) c.place-number.result c.in-Some.stage c.in-Some-bound_at.bound
-    c.place-number.ensures.place c.in-Some.ensures c.in-Some-bound_at.ensures in
-    let drawn : c.draws.result ≡ draws (plan_of c.args.sizes c.args.tables.now) c.in-Some.stage =
-    draws-found c.args.sizes _ _ c.kind.ensures c.in-Some.stage c.draws.result c.draws.ensures in
+    round_found c.plan-plan.result _ c.plan-plan.ensures (length c.args.challenges.now) c.place-number.result c.in_ok-stage.stage c.in_ok-bound.bound
+    c.place-number.ensures.place (sym c.stage_at.ensures ∙ c.in_ok-stage.ensures.ok_part) (sym c.bound_at.ensures ∙ c.in_ok-bound.ensures.ok_part) in
+    let drawn : c.draws.result ≡ draws (plan_of c.args.sizes c.args.tables.now) c.in_ok-stage.stage =
+    c.draws.ensures ∙ ap (λ p. draws p c.in_ok-stage.stage) c.plan-plan.ensures in
+    let (fits, plan, tables, challenges) = c.in_ok-prover.ensures in
     let start : length c.args.challenges.now - (c.place-number.result.1 - 1) - c.draws.result
     ≡ challenges_before (plan_of c.args.sizes c.args.tables.now) (c.place-number.result.0 - 1) =
     omega (arith, due.count_is) in
+    let begins =
+    subst (λ xs. Begins f from stage q p (job c.args.tables.now) xs) challenges
+    (subst (λ t. Begins f from stage q p (job t) made.challenges.now) tables
+    (subst (λ x. Begins f from stage q x (job made.tables.now) made.challenges.now) plan c.round_polynomial.ensures)) in
     let done =
-    message_made f p m c.args.challenges.now c.place-number.result c.in-Some.stage c.in-Some-bound_at.bound due fit c.args.output.now (coefficients c.round_polynomial.result) _ c.if-output-bound.false
-    (sym c.tables_fit.ensures ∙ c.if-not-tables_fit.false) start c.round_polynomial.ensures in
+    message_made f p (job c.args.tables.now) c.args.challenges.now c.place-number.result stage c.in_ok-bound.bound due fit c.args.output.now q _ c.if-output-bound.false
+    fits start begins in
     record { answer = c.write.ensures.answer ∙ done.0; output = c.write.ensures.places ∙ done.1 }

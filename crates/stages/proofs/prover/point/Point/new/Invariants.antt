@@ -1,0 +1,11 @@
+use Rattle.std.proofs.Common.{◌≡◌, ℕ, ◌+◌, ◌<◌, ◌∷◌, ◌++◌, length, get_or}
+use Rattle.tables.specs.Limits.{most_variables}
+use Rattle.tables.specs.Sums.{corner}
+use Rattle.stages.proofs.prover.point.Point.new.Given as goal
+
+-- the places gone through have their coordinates
+abbrev pub invariant-loop-i : goal.invariant-loop-i
+invariant-loop-i g l =
+    let f = g.F.Field.field in
+    (length l.place-items ≡ most_variables)
+    × ((j : ℕ) → j < l.i → j < length l.r + 1 + l.left → get_or l.place-items j f.zero ≡ get_or (l.r ++ (l.x ∷ corner f l.left l.index)) j f.zero)

@@ -3,16 +3,13 @@ use Rattle.std.specs.Prelude.{◌≡◌, ℕ, List, [], ◌∷◌, ◌++◌, Ok,
 use Rattle.std.specs.List.{flat_map, enumerate_from}
 use Rattle.fields.specs.declared.refusal.Refusal.{Refusal}
 use Rattle.fields.specs.Refusals.{reported}
-use Rattle.tables.specs.declared.size.Sizes.{Sizes}
-use Rattle.tables.specs.Sizes.{sizes_for}
-use Rattle.stages.specs.declared.plan.Kind.{Kind}
 use Rattle.stages.specs.declared.plan.Stage.{Stage}
 use Rattle.stages.specs.declared.plan.Stage.TheVariants.{Bits, Row, Read, Write, Value}
 use Rattle.stages.specs.declared.plan.Plan.{Plan}
 use Rattle.stages.specs.Plan.{stages, draws, bounds}
 use Rattle.stages.specs.Names.{stage_name, chunk_name}
 use Rattle.texts.specs.declared.job.Job.{Job}
-use Rattle.texts.specs.Jobs.{tab, line_end, Reads}
+use Rattle.texts.specs.Jobs.{tab, line_end, Reads, plan_of}
 
 abbrev pub comma : ℕ
 comma = 44
@@ -49,13 +46,13 @@ module _ (p : Plan) where
 abbrev pub refusal_text : Refusal → List ℕ
 refusal_text e = codes "refused" ++ (tab ∷ (decimal (reported e).number ++ (line_end ∷ [])))
 
--- the plan for sizes that are taken, or their refusal
-abbrev pub sized_text : Kind → Result Sizes Refusal → List ℕ
-sized_text kind (Ok s) = plan_text (record { kind = kind; sizes = s })
-sized_text kind (Err e) = refusal_text e
+-- the text of a plan, or of what is refused
+abbrev pub plan_or_refusal : Result Plan Refusal → List ℕ
+plan_or_refusal (Ok p) = plan_text p
+plan_or_refusal (Err e) = refusal_text e
 
 abbrev pub job_text : Result Job Refusal → List ℕ
-job_text (Ok j) = sized_text j.kind (sizes_for j.d j.c j.t)
+job_text (Ok j) = plan_or_refusal (plan_of j)
 job_text (Err e) = refusal_text e
 
 -- the text answers what is read of the input

@@ -1,10 +1,11 @@
 // Reading the line that asks for the plan of a job.
 ghost use Rattle.std.specs.Prelude.{◌≡◌, ◌<◌, ◌==◌};
 ghost use Rattle.std.specs.List.{position};
-ghost use Rattle.texts.specs.Jobs.{Reads, JobRead, KindFirst, NumberFirst, NumberRead};
+ghost use Rattle.texts.specs.Jobs.{plan_of, Reads, JobRead, KindFirst, NumberFirst, NumberRead};
 
 use fields::refusal::Refusal;
-use stages::plan::Kind;
+use stages::plan::{Kind, Plan};
+use tables::size::Sizes;
 
 // What a line asks for, its numbers as written.
 #[derive(Clone, Copy)]
@@ -74,4 +75,18 @@ pub fn read_job(input: &[u8]) -> Result<Job, Refusal>
     ensures { Reads input.now result }
 {
     first_job(input).ok_or(Refusal::MalformedLine)
+}
+
+// The plan that a job asks for, or the refusal of its sizes.
+impl TryFrom<Job> for Plan {
+    type Error = Refusal;
+
+    ghost try_from_gives = { λ job plan. plan ≡ plan_of job };
+
+    fn try_from(job: Job) -> Result<Plan, Refusal> {
+        Ok(Plan {
+            kind: job.kind,
+            sizes: Sizes::new(job.d, job.c, job.t)?,
+        })
+    }
 }

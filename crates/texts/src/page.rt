@@ -3,12 +3,11 @@ ghost use Rattle.std.specs.Prelude.{◌≡◌, Some, IfOk, string_bytes};
 ghost use Rattle.stages.specs.Plan.{bounds};
 ghost use Rattle.texts.specs.Pages.{table_name, comma_list, stage_line, plan_text, refusal_text, Answers};
 
-use crate::job::{Job, read_job};
+use crate::job::read_job;
 use fields::refusal::Refusal;
 use stages::plan::{Plan, Stage};
 use std::alloc::{AllocError, Global};
 use std::fmt;
-use tables::size::Sizes;
 
 // The chunk table of a stage, or - if it has none.
 #[derive(Clone, Copy)]
@@ -49,6 +48,7 @@ impl fmt::Display for BoundList {
     }
 }
 
+// The number of a stage, its name, chunk table, draws and bounds, parted by tabs.
 #[derive(Clone, Copy)]
 struct StageLine {
     plan: Plan,
@@ -83,15 +83,12 @@ impl fmt::Display for PlanText {
         let plan = self.0;
         for number in 1..=plan.stage_count() {
             let stage = plan.stage_at(number).unwrap();
-            write!(
-                f,
-                "{}",
-                StageLine {
-                    plan,
-                    number,
-                    stage
-                }
-            )?;
+            let line = StageLine {
+                plan,
+                number,
+                stage,
+            };
+            write!(f, "{line}")?;
         }
         Ok(())
     }
@@ -114,11 +111,8 @@ pub fn refusal_text(heap: Global, refusal: Refusal) -> Result<String, AllocError
 pub fn answer(heap: Global, input: &[u8]) -> Result<String, AllocError>
     ensures { IfOk result (λ s. Answers input.now (string_bytes s)) }
 {
-    match read_job(input) {
+    match read_job(input).and_then(Plan::try_from) {
+        Ok(plan) => plan_text(heap, plan),
         Err(refusal) => refusal_text(heap, refusal),
-        Ok(Job { kind, d, c, t }) => match Sizes::new(d, c, t) {
-            Err(refusal) => refusal_text(heap, refusal),
-            Ok(sizes) => plan_text(heap, Plan { kind, sizes }),
-        },
     }
 }

@@ -7,7 +7,7 @@ use Rattle.std.proofs.lemmas.Fmt.{decimal_is_IsNumeral, decimal-digits_value, le
 use Rattle.std.proofs.lemmas.Str.Parse.{IsNumeralModel, numerals_by_value, tells_digits, digit_at, digit_from_value, digits_value_short, parse_plain}
 use Rattle.std.proofs.lemmas.Bool.{cond-false, cases_lt}
 use Rattle.std.proofs.lemmas.Iterator.Adapters.{position_from-zero}
-use Rattle.std.proofs.Math.Seq.{take-append_seam}
+use Rattle.std.proofs.Math.Seq.{take-append_seam, drop-append_seam}
 use Rattle.std.proofs.lemmas.List.{take-append-drop, drop_more}
 use Rattle.std.proofs.lemmas.List.Quantifiers.{position-Some}
 use Rattle.texts.specs.Jobs.{Short, NumberFirst, NumberRead}
@@ -85,20 +85,11 @@ parted bytes ds end count at front =
     let last : get_or bytes count 0 ≡ end = search (rules, here.1) in
     sym (take-append-drop count bytes) ∙ ap₂ ◌++◌ front (drop_more bytes count 0 here.0 ∙ ap (λ b. b ∷ drop (count + 1) bytes) last)
 
--- digits up to a byte that is none, and what comes after it, are told by the bytes
-digits_unique : (cs bs xs ys : List ℕ) (e : ℕ) → AllDigits 10 cs → AllDigits 10 bs → e < 48 → cs ++ (e ∷ xs) ≡ bs ++ (e ∷ ys) → (cs ≡ bs) × (xs ≡ ys)
-digits_unique [] [] xs ys e ha hb k q = (refl, cc)
-digits_unique [] (b ∷ bs) xs ys e ha hb k q = let same : e ≡ b = cc in absurd (omega (arith, (digit_from_value b hb.0).0))
-digits_unique (a ∷ cs) [] xs ys e ha hb k q = let same : a ≡ e = cc in absurd (omega (arith, (digit_from_value a ha.0).0))
-digits_unique (a ∷ cs) (b ∷ bs) xs ys e ha hb k q =
-    let same : a ≡ b = cc in
-    let rest : cs ++ (e ∷ xs) ≡ bs ++ (e ∷ ys) = cc in
-    let u = digits_unique cs bs xs ys e ha.1 hb.1 k rest in
-    (ap₂ ◌∷◌ same u.0, u.1)
-
-pub number_unique : (m n : ℕ) (xs ys : List ℕ) (e : ℕ) → Short m → Short n → e < 48 → decimal m ++ (e ∷ xs) ≡ decimal n ++ (e ∷ ys) → (m ≡ n) × (xs ≡ ys)
-number_unique m n xs ys e hm hn k q =
-    let rm = decimal_is_IsNumeral m (omega arith) in
-    let rn = decimal_is_IsNumeral n (omega arith) in
-    let u = digits_unique (decimal m) (decimal n) xs ys e rm.0.1 rn.0.1 k q in
-    (sym rm.1 ∙ ap (digits_value 10) u.0 ∙ rn.1, u.1)
+-- what comes after a number and a byte is told by the bytes
+pub after_number : (m n : ℕ) (bytes xs ys : List ℕ) (end : ℕ) → end < 48 → Short m → Short n → bytes ≡ decimal m ++ (end ∷ xs) → bytes ≡ decimal n ++ (end ∷ ys) → xs ≡ ys
+after_number m n bytes xs ys end k hm hn em en =
+    let at_m : position (λ b. nat_eq b end) bytes ≡ Some (length (decimal m)) = ap (position (λ b. nat_eq b end)) em ∙ found m xs end hm k in
+    let at_n : position (λ b. nat_eq b end) bytes ≡ Some (length (decimal n)) = ap (position (λ b. nat_eq b end)) en ∙ found n ys end hn k in
+    let same : length (decimal m) ≡ length (decimal n) = cc in
+    let tails : end ∷ xs ≡ end ∷ ys = sym (drop-append_seam (decimal m) (end ∷ xs)) ∙ ap₂ drop same (sym em ∙ en) ∙ drop-append_seam (decimal n) (end ∷ ys) in
+    cc

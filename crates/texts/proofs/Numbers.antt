@@ -1,5 +1,5 @@
 -- Numbers of digits at the front of bytes, each followed by a byte that is no digit.
-use Rattle.std.proofs.Common.{◌≡◌, ℕ, zero, suc, ◌+◌, ◌^◌, ◌<◌, ◌≤◌, ◌≢◌, true, false, List, [], ◌∷◌, ◌++◌, length, get_or, take, drop, Some, None, Result, Ok, Err, nat_eq, decimal, sym, refl, ap, ◌∙◌, ap₂, arith, lit<, rules, ⊎_elim, zero-add}
+use Rattle.std.proofs.Common.{◌≡◌, ℕ, zero, suc, ◌+◌, ◌^◌, ◌<◌, ◌≤◌, ◌≢◌, List, [], ◌∷◌, ◌++◌, length, get_or, take, drop, Some, None, Result, Ok, Err, nat_eq, decimal, sym, refl, ap, ◌∙◌, ap₂, arith, lit<, rules, ⊎_elim, zero-add}
 use Rattle.std.specs.List.{position, position_from, starts_with}
 use Rattle.std.specs.Str.Parse.{AllDigits, digits_value, ParsesUnsigned}
 use Rattle.std.specs.Result.{result_ok}
@@ -34,13 +34,9 @@ plain_decimal n small =
     first zero big more z = omega (arith, ap length (decimal_digit 0 (lit< tt)))
     first (suc n) big more z = omega (arith, first_decimal (suc n) (omega arith) big)
 
-pub starts_with_plus : (ds : List ℕ) → starts_with nat_eq ds (43 ∷ []) ≡ true → get_or ds 0 0 ≡ 43
-starts_with_plus [] h = cc
-starts_with_plus (d ∷ ds) h = search rules
-
-pub starts_without_plus : (ds : List ℕ) → starts_with nat_eq ds (43 ∷ []) ≡ false → get_or ds 0 0 ≢ 43
-starts_without_plus [] h = λ e. omega (arith, e)
-starts_without_plus (d ∷ ds) h = λ e. search rules
+pub starts_with_plus : (ds : List ℕ) → starts_with nat_eq ds (43 ∷ []) ≡ nat_eq (get_or ds 0 0) 43
+starts_with_plus [] = refl
+starts_with_plus (d ∷ ds) = search rules
 
 -- what is parsed of plain digits is the number that they write
 pub number_parsed : {E : Type 0} (ds : List ℕ) (r : Result ℕ E) → ParsesUnsigned 64 10 ds r → Plain ds → NumberRead ds (result_ok r)

@@ -1,7 +1,7 @@
 use Rattle.std.proofs.Common.{rules, arith, ◌≡◌}
 use Rattle.std.proofs.lemmas.Str.{IsUtf8-from_ascii}
 use Rattle.std.proofs.lemmas.Fmt.{IsAscii-decimal}
-use Rattle.texts.proofs.Numbers.{Plain, starts_with_plus, starts_without_plus, plain_decimal, number_parsed}
+use Rattle.texts.proofs.Numbers.{Plain, starts_with_plus, plain_decimal, number_parsed}
 use Rattle.texts.proofs.job.short_number.Goals as goal
 use Rattle.texts.proofs.job.short_number.Goals.{then-starts_with-via-then-starts_with, then-starts_with-via-else-starts_with+then-digits-gt-MOST_DIGITS, else-digits-gt1-via-then-digits-gt1+else-digits-eq48, else-digits-gt1-via-else-digits-gt1}
 
@@ -14,7 +14,7 @@ pub returns-then-starts_with : goal.returns-then-starts_with
 returns-then-starts_with c n small e =
     let plain : Plain c.args.digits.now = rw e (plain_decimal n small) in
     elim c.then-starts_with.branch [
-      | then-starts_with-via-then-starts_with w ↦ plain.no_plus (starts_with_plus c.args.digits.now (search rules))
+      | then-starts_with-via-then-starts_with w ↦ plain.no_plus (search (rules, starts_with_plus c.args.digits.now))
       | then-starts_with-via-else-starts_with+then-digits-gt-MOST_DIGITS w ↦ omega (arith, plain.few)
     ]
 
@@ -27,7 +27,7 @@ returns c =
     let plain : Plain c.args.digits.now =
     record {
       few = omega arith;
-      no_plus = starts_without_plus c.args.digits.now (search rules);
+      no_plus = search (rules, starts_with_plus c.args.digits.now);
       no_zero = λ more zero_first.
           elim c.else-digits-gt1.branch [
             | else-digits-gt1-via-then-digits-gt1+else-digits-eq48 w ↦ w.if-digits-eq48.false zero_first

@@ -1,14 +1,14 @@
 use Rattle.std.proofs.Common.{◌≡◌, ◌+◌, ◌-◌, length, take, drop, decimal, sym, arith}
 use Rattle.std.proofs.lemmas.Slice.{between_to_end}
-use Rattle.texts.proofs.Numbers.{never_ended, ended, parted}
+use Rattle.texts.proofs.Numbers.{no_place, no_number, parted}
 use Rattle.texts.proofs.job.number.Goals as goal
 
 pub returns-in_err-count : goal.returns-in_err-count
-returns-in_err-count c = rw c.from_residual.ensures (never_ended c.args.bytes.now c.args.end c.requires (sym c.in_err-count.ensures))
+returns-in_err-count c = rw c.from_residual.ensures (no_place c.args.bytes.now c.args.end c.requires (sym c.in_err-count.ensures))
 
 pub returns-in_err-number : goal.returns-in_err-number
 returns-in_err-number c =
-    rw c.from_residual-in_err-number.ensures (ended c.args.bytes.now c.args.end c.in_ok-count.count c.requires (sym c.in_ok-count.ensures) c.in_err-number.ensures)
+    rw c.from_residual-in_err-number.ensures (no_number c.args.bytes.now c.args.end c.in_ok-count.count c.requires (sym c.in_ok-count.ensures) c.in_err-number.ensures)
 
 pub returns : goal.returns
 returns c =

@@ -8,7 +8,7 @@ use Rattle.texts.proofs.job.short_number.Goals.{then-starts_with-via-then-starts
 pub returns-then-digits-eq48 : goal.returns-then-digits-eq48
 returns-then-digits-eq48 c n small e =
     let plain : Plain c.args.digits.now = rw e (plain_decimal n small) in
-    plain.no_zero c.if-digits-gt1.true c.if-digits-eq48.true
+    omega (arith, plain.no_zero c.if-digits-eq48.true)
 
 pub returns-then-starts_with : goal.returns-then-starts_with
 returns-then-starts_with c n small e =
@@ -28,9 +28,9 @@ returns c =
     record {
       few = omega arith;
       no_plus = search (rules, starts_with_plus c.args.digits.now);
-      no_zero = λ more zero_first.
+      no_zero = λ zero_first.
           elim c.else-digits-gt1.branch [
-            | else-digits-gt1-via-then-digits-gt1+else-digits-eq48 w ↦ w.if-digits-eq48.false zero_first
+            | else-digits-gt1-via-then-digits-gt1+else-digits-eq48 w ↦ absurd (w.if-digits-eq48.false zero_first)
             | else-digits-gt1-via-else-digits-gt1 w ↦ omega arith
           ];
     }

@@ -21,8 +21,11 @@ first_number [] b at = absurd (cc)
 first_number (x ∷ xs) b at = let same : b ≡ x = cc in ap (λ n. decimal n ++ flat_map after_comma xs) same
 
 module _ (p : Plan) where
-  pub next_stage : (n : ℕ) (g : Stage) → stage_at p n ≡ Some g
-      → flat_map (numbered_line p) (take (n - 1) (enumerate_from 1 (stages p))) ++ stage_line p n g ≡ flat_map (numbered_line p) (take (n + 1 - 1) (enumerate_from 1 (stages p)))
+  -- the lines of the stages before the one of a number
+  abbrev pub lines_before : ℕ → List ℕ
+  lines_before n = flat_map (numbered_line p) (take (n - 1) (enumerate_from 1 (stages p)))
+
+  pub next_stage : (n : ℕ) (g : Stage) → stage_at p n ≡ Some g → lines_before n ++ stage_line p n g ≡ lines_before (n + 1)
   next_stage zero g at = absurd (cc)
   next_stage (suc i) g at =
       let within : i < length (stages p) = slice_get_within (stages p) i g at in
@@ -33,15 +36,18 @@ module _ (p : Plan) where
       (omega arith)
       (omega arith)
 
-  pub last_stage : (n : ℕ) (g : Stage) → length (stages p) ≤ n → stage_at p n ≡ Some g
-      → flat_map (numbered_line p) (take (n - 1) (enumerate_from 1 (stages p))) ++ stage_line p n g ≡ plan_text p
+  pub last_stage : (n : ℕ) (g : Stage) → length (stages p) ≤ n → stage_at p n ≡ Some g → lines_before n ++ stage_line p n g ≡ plan_text p
   last_stage n g end at =
       next_stage n g at ∙ ap (flat_map (numbered_line p)) (take_all (n + 1 - 1) (enumerate_from 1 (stages p)) (omega (arith, length-enumerate_from 1 (stages p))))
 
-  pub next_bound : (g : Stage) (r b : ℕ) → 2 ≤ r → bound_at p g r ≡ Some b
-      → flat_map after_comma (take (r - 2) (drop 1 (bounds p g))) ++ after_comma b ≡ flat_map after_comma (take (r + 1 - 2) (drop 1 (bounds p g)))
-  next_bound g zero b low at = absurd (omega arith)
-  next_bound g (suc i) b low at =
+module _ (p : Plan) (g : Stage) where
+  -- the bounds of the rounds from 2 on before a round, each after a comma
+  abbrev pub bounds_before : ℕ → List ℕ
+  bounds_before r = flat_map after_comma (take (r - 2) (drop 1 (bounds p g)))
+
+  pub next_bound : (r b : ℕ) → 2 ≤ r → bound_at p g r ≡ Some b → bounds_before r ++ after_comma b ≡ bounds_before (r + 1)
+  next_bound zero b low at = absurd (omega arith)
+  next_bound (suc i) b low at =
       let within : i < length (bounds p g) = slice_get_within (bounds p g) i b at in
       let place : 1 + (i - 1) ≡ i = omega arith in
       next_piece after_comma (drop 1 (bounds p g)) (i - 1) (suc i - 2) (suc i + 1 - 2) b
@@ -50,9 +56,9 @@ module _ (p : Plan) where
       (omega arith)
       (omega arith)
 
-  pub last_bound : (g : Stage) (r a b : ℕ) → 2 ≤ r → rounds p g ≤ r → bound_at p g 1 ≡ Some a → bound_at p g r ≡ Some b
-      → decimal a ++ (flat_map after_comma (take (r - 2) (drop 1 (bounds p g))) ++ after_comma b) ≡ comma_list (bounds p g)
-  last_bound g r a b low end first at =
+  pub last_bound : (r a b : ℕ) → 2 ≤ r → rounds p g ≤ r → bound_at p g 1 ≡ Some a → bound_at p g r ≡ Some b
+      → decimal a ++ (bounds_before r ++ after_comma b) ≡ comma_list (bounds p g)
+  last_bound r a b low end first at =
       ap (λ s. decimal a ++ s)
-      (next_bound g r b low at ∙ ap (flat_map after_comma) (take_all (r + 1 - 2) (drop 1 (bounds p g)) (omega (arith, length-drop 1 (bounds p g)))))
+      (next_bound r b low at ∙ ap (flat_map after_comma) (take_all (r + 1 - 2) (drop 1 (bounds p g)) (omega (arith, length-drop 1 (bounds p g)))))
       ∙ first_number (bounds p g) a first

@@ -154,31 +154,30 @@ mod tests {
     ];
 
     fn says(rt: &impl Abort, heap: Global, input: &[u8], expected: &str) -> Result<(), Fail> {
-        let text = answer(heap, input)?;
-        assert!(rt; text.as_str() == expected);
+        assert_eq!(rt; answer(heap, input)?.as_str(), expected);
         Ok(())
     }
 
     #[test]
     fn malformed_lines_are_refused(rt: HostRuntime) -> Result<(), Fail> {
-        for line in MALFORMED.iter() {
-            says(&rt, rt.alloc(), *line, "refused\t10\n")?;
+        for line in MALFORMED {
+            says(&rt, rt.alloc(), line, "refused\t10\n")?;
         }
         Ok(())
     }
 
     #[test]
     fn sizes_outside_the_limits_are_refused(rt: HostRuntime) -> Result<(), Fail> {
-        for line in OUTSIDE.iter() {
-            says(&rt, rt.alloc(), *line, "refused\t2\n")?;
+        for line in OUTSIDE {
+            says(&rt, rt.alloc(), line, "refused\t2\n")?;
         }
         Ok(())
     }
 
     #[test]
     fn a_line_gives_its_plan(rt: HostRuntime) -> Result<(), Fail> {
-        for (line, text) in TAKEN.iter() {
-            says(&rt, rt.alloc(), *line, *text)?;
+        for (line, text) in TAKEN {
+            says(&rt, rt.alloc(), line, text)?;
         }
         Ok(())
     }
@@ -194,12 +193,12 @@ mod tests {
     }
 
     fn places(rt: &impl Abort, plan: Plan, expected: &[(usize, usize)]) {
-        assert!(rt; plan.challenge_count() == expected.len());
+        assert_eq!(rt; plan.challenge_count(), expected.len());
         for (count, place) in expected.iter().enumerate() {
-            assert!(rt; plan.place(count) == *place);
+            assert_eq!(rt; plan.place(count), *place);
         }
-        assert!(rt; plan.place(expected.len()) == (0, 0));
-        assert!(rt; plan.place(usize::MAX) == (0, 0));
+        assert_eq!(rt; plan.place(expected.len()), (0, 0));
+        assert_eq!(rt; plan.place(usize::MAX), (0, 0));
     }
 
     #[test]
@@ -229,19 +228,16 @@ mod tests {
     }
 
     fn element(number: u64) -> F31 {
-        match F31::from_number(number) {
-            Ok(element) => element,
-            Err(_) => F31::zero_element(),
-        }
+        F31::from_number(number).unwrap_or(F31::ZERO)
     }
 
     // Two cycles write 9 and then 4 to cell 1: before cycle j the cells hold 9·a·j at an address a, also between the corners.
     #[test]
     fn what_the_memory_holds(rt: HostRuntime) -> Result<(), Fail> {
         let sizes = Sizes::new(1, 1, 1)?;
-        let entries = [element(0), element(0), element(9), element(2147483642)];
+        let entries = [0, 0, 9, 2147483642].map(element);
         let inc = PlainList::new(&entries)?;
-        let point = [element(0), element(1), element(2), element(3)];
+        let point = [0, 1, 2, 3].map(element);
         assert_eq!(rt;
             value_at(sizes, &inc, &point[1..2], &point[1..2])?.to_number(),
             9
@@ -254,26 +250,20 @@ mod tests {
             value_at(sizes, &inc, &point[2..3], &point[3..4])?.to_number(),
             54
         );
-        assert!(rt; is_refused(value_at(sizes, &inc, &point[0..2], &point[3..4]), 7));
-        assert!(rt;
-            is_refused(
-                value_at(Sizes::new(1, 1, 0)?, &inc, &point[1..2], &point[0..0]),
-                4,
-            )
+        assert_eq!(rt;
+            value_at(sizes, &inc, &point[0..2], &point[3..4]),
+            Err(Refusal::OutsideTable)
+        );
+        assert_eq!(rt;
+            value_at(Sizes::new(1, 1, 0)?, &inc, &point[1..2], &point[0..0]),
+            Err(Refusal::TablesDoNotFit)
         );
         Ok(())
     }
 
-    fn is_refused(answer: Result<F31, Refusal>, number: u8) -> bool {
-        match answer {
-            Ok(_) => false,
-            Err(refusal) => u8::from(refusal) == number,
-        }
-    }
-
     #[test]
     fn tables_that_fit(rt: HostRuntime) -> Result<(), Fail> {
-        let entries = [element(1), element(0), element(0), element(1)];
+        let entries = [1, 0, 0, 1].map(element);
         let two = PlainList::new(&entries)?;
         let one = PlainList::new(&entries[0..2])?;
         let chunks = [two, two];

@@ -1,4 +1,5 @@
 pub mod Plan
+pub mod Names
 pub mod Places
 pub mod Memory
 pub mod Models

@@ -1,59 +1,64 @@
--- Text that is written piece by piece: what is written, and what is left to write, make up the whole.
-use Rattle.std.proofs.Common.{◌≡◌, ℕ, zero, suc, ◌+◌, ◌<◌, ◌≤◌, List, [], ◌∷◌, ◌++◌, length, drop, Some, None, decimal, sym, refl, ap, ◌∙◌, append_assoc, append-nil, add-one, arith}
-use Rattle.std.specs.List.{slice_get}
+-- Text that is written piece by piece, a piece for each element of a list.
+use Rattle.std.proofs.Common.{◌≡◌, ℕ, zero, suc, ◌+◌, ◌-◌, ◌<◌, ◌≤◌, List, [], ◌∷◌, ◌++◌, length, get_or, take, drop, Some, decimal, sym, ap, ◌∙◌, ap₂, arith, length-drop}
+use Rattle.std.specs.List.{flat_map, enumerate_from, slice_get}
+use Rattle.std.proofs.lemmas.List.{flat_map_more, take_more, take_all, get_or-drop}
+use Rattle.std.proofs.lemmas.List.FromFn.{get_or-enumerate_from, length-enumerate_from}
+use Rattle.std.proofs.lemmas.Option.{slice_get_within, get_or_from_slice_get}
 use Rattle.stages.specs.declared.plan.Stage.{Stage}
 use Rattle.stages.specs.declared.plan.Plan.{Plan}
 use Rattle.stages.specs.Plan.{stages, stage_at, bounds, bound_at, rounds}
-use Rattle.texts.specs.Pages.{comma, after_commas, comma_list, stage_line, stage_lines}
+use Rattle.texts.specs.Pages.{after_comma, comma_list, stage_line, numbered_line, plan_text}
 
-drop_nth : {X : Type 0} (xs : List X) (i : ℕ) (x : X) → slice_get xs i ≡ Some x → drop i xs ≡ x ∷ drop (suc i) xs
-drop_nth [] i x is = let z : ◌≡◌ {A = ℕ} 0 1 = cc in absurd (omega arith)
-drop_nth (y ∷ xs) zero x is = let same : y ≡ x = cc in ap (λ y. y ∷ xs) same
-drop_nth (y ∷ xs) (suc i) x is = drop_nth xs i x is
+-- the piece of the element at i, after those of the elements before it
+next_piece : {X : Type 0} (f : X → List ℕ) (xs : List X) (i m n : ℕ) (x : X) → i < length xs → get_or xs i x ≡ x → m ≡ i → n ≡ i + 1 → flat_map f (take m xs) ++ f x ≡ flat_map f (take n xs)
+next_piece f xs i m n x within here before after =
+    ap (λ k. flat_map f (take k xs) ++ f x) before
+    ∙ flat_map_more f [] (take i xs) x
+    ∙ ap (flat_map f) (sym (ap (λ k. take k xs) after ∙ take_more xs i x within ∙ ap (λ y. take i xs ++ (y ∷ [])) here))
 
-nth_some : {X : Type 0} (xs : List X) (i : ℕ) → slice_get xs i ≡ None → i < length xs → ⊥
-nth_some [] i is h = omega arith
-nth_some (x ∷ xs) zero is h = let z : ◌≡◌ {A = ℕ} 0 1 = cc in omega arith
-nth_some (x ∷ xs) (suc i) is h = nth_some xs i is (omega arith)
-
-drop_past : {X : Type 0} (xs : List X) (i : ℕ) → length xs ≤ i → drop i xs ≡ []
-drop_past [] zero h = refl
-drop_past [] (suc i) h = refl
-drop_past (x ∷ xs) zero h = absurd (omega arith)
-drop_past (x ∷ xs) (suc i) h = drop_past xs i (omega arith)
-
-module _ (p : Plan) (g : Stage) where
-  pub some_bound : (i : ℕ) → bound_at p g (i + 1) ≡ None → i < rounds p g → ⊥
-  some_bound i none h = nth_some (bounds p g) i (sym (ap (bound_at p g) (add-one i)) ∙ none) h
-
-  pub first_bound : (b : ℕ) → bound_at p g 1 ≡ Some b → decimal b ++ after_commas (drop 1 (bounds p g)) ≡ comma_list (bounds p g)
-  first_bound b is = sym (ap comma_list (drop_nth (bounds p g) 0 b is))
-
-  pub next_bound : (i b : ℕ) (w whole : List ℕ) → bound_at p g (i + 1) ≡ Some b → w ++ after_commas (drop i (bounds p g)) ≡ whole
-      → (w ++ (comma ∷ decimal b)) ++ after_commas (drop (i + 1) (bounds p g)) ≡ whole
-  next_bound i b w whole is so_far =
-      let at : slice_get (bounds p g) i ≡ Some b = sym (ap (bound_at p g) (add-one i)) ∙ is in
-      append_assoc w (comma ∷ decimal b) (after_commas (drop (i + 1) (bounds p g)))
-      ∙ ap (λ n. w ++ (comma ∷ (decimal b ++ after_commas (drop n (bounds p g))))) (add-one i)
-      ∙ sym (ap (λ bs. w ++ after_commas bs) (drop_nth (bounds p g) i b at))
-      ∙ so_far
-
-  pub all_bounds : (i : ℕ) (w whole : List ℕ) → rounds p g ≤ i → w ++ after_commas (drop i (bounds p g)) ≡ whole → w ≡ whole
-  all_bounds i w whole h so_far = sym (ap (λ bs. w ++ after_commas bs) (drop_past (bounds p g) i h) ∙ append-nil w) ∙ so_far
+first_number : (bs : List ℕ) (b : ℕ) → slice_get bs 0 ≡ Some b → decimal b ++ flat_map after_comma (drop 1 bs) ≡ comma_list bs
+first_number [] b at = absurd (cc)
+first_number (x ∷ xs) b at = let same : b ≡ x = cc in ap (λ n. decimal n ++ flat_map after_comma xs) same
 
 module _ (p : Plan) where
-  pub some_stage : (i : ℕ) → stage_at p (i + 1) ≡ None → i < length (stages p) → ⊥
-  some_stage i none h = nth_some (stages p) i (sym (ap (stage_at p) (add-one i)) ∙ none) h
+  -- the lines of the stages before the one of a number
+  abbrev pub lines_before : ℕ → List ℕ
+  lines_before n = flat_map (numbered_line p) (take (n - 1) (enumerate_from 1 (stages p)))
 
-  pub next_stage : (i : ℕ) (g : Stage) (w whole : List ℕ) → stage_at p (i + 1) ≡ Some g → w ++ stage_lines p (i + 1) (drop i (stages p)) ≡ whole
-      → (w ++ stage_line p (i + 1) g) ++ stage_lines p (i + 1 + 1) (drop (i + 1) (stages p)) ≡ whole
-  next_stage i g w whole is so_far =
-      let at : slice_get (stages p) i ≡ Some g = sym (ap (stage_at p) (add-one i)) ∙ is in
-      append_assoc w (stage_line p (i + 1) g) (stage_lines p (i + 1 + 1) (drop (i + 1) (stages p)))
-      ∙ ap (λ n. w ++ (stage_line p (i + 1) g ++ stage_lines p n (drop (i + 1) (stages p)))) (add-one (i + 1))
-      ∙ ap (λ n. w ++ (stage_line p (i + 1) g ++ stage_lines p (suc (i + 1)) (drop n (stages p)))) (add-one i)
-      ∙ sym (ap (λ gs. w ++ stage_lines p (i + 1) gs) (drop_nth (stages p) i g at))
-      ∙ so_far
+  pub next_stage : (n : ℕ) (g : Stage) → stage_at p n ≡ Some g → lines_before n ++ stage_line p n g ≡ lines_before (n + 1)
+  next_stage zero g at = absurd (cc)
+  next_stage (suc i) g at =
+      let within : i < length (stages p) = slice_get_within (stages p) i g at in
+      let number : 1 + i ≡ suc i = omega arith in
+      next_piece (numbered_line p) (enumerate_from 1 (stages p)) i (suc i - 1) (suc i + 1 - 1) (suc i, g)
+      (omega (arith, within, length-enumerate_from 1 (stages p)))
+      (get_or-enumerate_from 1 (stages p) i (suc i, g) within ∙ ap₂ (λ n g. (n, g)) number (get_or_from_slice_get (stages p) i g g at))
+      (omega arith)
+      (omega arith)
 
-  pub all_stages : (i : ℕ) (w whole : List ℕ) → length (stages p) ≤ i → w ++ stage_lines p (i + 1) (drop i (stages p)) ≡ whole → w ≡ whole
-  all_stages i w whole h so_far = sym (ap (λ gs. w ++ stage_lines p (i + 1) gs) (drop_past (stages p) i h) ∙ append-nil w) ∙ so_far
+  pub last_stage : (n : ℕ) (g : Stage) → length (stages p) ≤ n → stage_at p n ≡ Some g → lines_before n ++ stage_line p n g ≡ plan_text p
+  last_stage n g end at =
+      next_stage n g at ∙ ap (flat_map (numbered_line p)) (take_all (n + 1 - 1) (enumerate_from 1 (stages p)) (omega (arith, length-enumerate_from 1 (stages p))))
+
+module _ (p : Plan) (g : Stage) where
+  -- the bounds of the rounds from 2 on before a round, each after a comma
+  abbrev pub bounds_before : ℕ → List ℕ
+  bounds_before r = flat_map after_comma (take (r - 2) (drop 1 (bounds p g)))
+
+  pub next_bound : (r b : ℕ) → 2 ≤ r → bound_at p g r ≡ Some b → bounds_before r ++ after_comma b ≡ bounds_before (r + 1)
+  next_bound zero b low at = absurd (omega arith)
+  next_bound (suc i) b low at =
+      let within : i < length (bounds p g) = slice_get_within (bounds p g) i b at in
+      let place : 1 + (i - 1) ≡ i = omega arith in
+      next_piece after_comma (drop 1 (bounds p g)) (i - 1) (suc i - 2) (suc i + 1 - 2) b
+      (omega (arith, within, length-drop 1 (bounds p g)))
+      (get_or-drop 1 (bounds p g) (i - 1) b ∙ ap (λ k. get_or (bounds p g) k b) place ∙ get_or_from_slice_get (bounds p g) i b b at)
+      (omega arith)
+      (omega arith)
+
+  pub last_bound : (r a b : ℕ) → 2 ≤ r → rounds p g ≤ r → bound_at p g 1 ≡ Some a → bound_at p g r ≡ Some b
+      → decimal a ++ (bounds_before r ++ after_comma b) ≡ comma_list (bounds p g)
+  last_bound r a b low end first at =
+      ap (λ s. decimal a ++ s)
+      (next_bound r b low at ∙ ap (flat_map after_comma) (take_all (r + 1 - 2) (drop 1 (bounds p g)) (omega (arith, length-drop 1 (bounds p g)))))
+      ∙ first_number (bounds p g) a first

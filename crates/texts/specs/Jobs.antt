@@ -5,6 +5,9 @@ use Rattle.fields.specs.declared.refusal.Refusal.{Refusal}
 use Rattle.fields.specs.declared.refusal.Refusal.TheVariants.{MalformedLine}
 use Rattle.stages.specs.declared.plan.Kind.{Kind}
 use Rattle.stages.specs.declared.plan.Kind.TheVariants.{Shout, Twist}
+use Rattle.tables.specs.declared.size.Sizes.{Sizes}
+use Rattle.tables.specs.Sizes.{sizes_for}
+use Rattle.stages.specs.declared.plan.Plan.{Plan}
 use Rattle.texts.specs.declared.job.Job.{Job}
 
 abbrev pub tab : ℕ
@@ -39,6 +42,20 @@ abbrev pub Reads : List ℕ → Result Job Refusal → Type 0
 Reads input (Ok j) = Begins input j
 Reads input (Err e) = (e ≡ MalformedLine) × ((j : Job) → Begins input j → ⊥)
 
+-- what is read of an input: the job whose line it begins with, or none if it begins with that of no job
+abbrev pub JobRead : List ℕ → Option Job → Type 0
+JobRead input (Some j) = Begins input j
+JobRead input None = (j : Job) → Begins input j → ⊥
+
+-- the plan of a kind for sizes that are taken, or their refusal
+abbrev pub sized_plan : Kind → Result Sizes Refusal → Result Plan Refusal
+sized_plan kind (Ok s) = Ok (record { kind = kind; sizes = s })
+sized_plan kind (Err e) = Err e
+
+-- the plan that a job asks for
+abbrev pub plan_of : Job → Result Plan Refusal
+plan_of j = sized_plan j.kind (sizes_for j.d j.c j.t)
+
 -- a kind's name and a tab at the front of bytes, and the bytes after them
 abbrev pub KindFirst : List ℕ → Option (Kind × Bor (List ℕ)) → Type 0
 KindFirst bytes (Some r) = bytes ≡ kind_name r.0 ++ (tab ∷ r.1.now)
@@ -48,3 +65,8 @@ KindFirst bytes None = (kind : Kind) (rest : List ℕ) → bytes ≢ kind_name k
 abbrev pub NumberFirst : List ℕ → ℕ → Option (ℕ × Bor (List ℕ)) → Type 0
 NumberFirst bytes end (Some r) = Short r.0 × (bytes ≡ decimal r.0 ++ (end ∷ r.1.now))
 NumberFirst bytes end None = (n : ℕ) (rest : List ℕ) → Short n → bytes ≢ decimal n ++ (end ∷ rest)
+
+-- the short number that digits write, if they write one
+abbrev pub NumberRead : List ℕ → Option ℕ → Type 0
+NumberRead digits (Some n) = Short n × (digits ≡ decimal n)
+NumberRead digits None = (n : ℕ) → Short n → digits ≢ decimal n

@@ -1,12 +1,11 @@
 // Reading the line that asks for the plan of a job.
-ghost use Rattle.std.specs.Prelude.{◌≡◌, ◌<◌, ◌≤◌, length};
-ghost use Rattle.std.specs.Str.Parse.{AllDigits, digits_value};
-ghost use Rattle.std.specs.Char.{is_ascii_digit};
-ghost use Rattle.std.specs.List.{prefix_len};
-ghost use Rattle.texts.specs.Jobs.{Reads, KindFirst, NumberFirst};
+ghost use Rattle.std.specs.Prelude.{◌≡◌, ◌<◌, ◌==◌};
+ghost use Rattle.std.specs.List.{position};
+ghost use Rattle.texts.specs.Jobs.{plan_of, Reads, JobRead, KindFirst, NumberFirst, NumberRead};
 
 use fields::refusal::Refusal;
-use stages::plan::Kind;
+use stages::plan::{Kind, Plan};
+use tables::size::Sizes;
 
 // What a line asks for, its numbers as written.
 #[derive(Clone, Copy)]
@@ -20,30 +19,24 @@ pub struct Job {
 // The digits of a number in a line.
 const MOST_DIGITS: usize = 4;
 
-// How many decimal digits the bytes begin with.
-fn leading_digits(bytes: &[u8]) -> usize
-    ensures value { result ≡ prefix_len is_ascii_digit bytes.now }
-    ensures bound { result ≤ length bytes.now }
+// The number that at most MOST_DIGITS digits write, without a leading zero.
+fn short_number(digits: &[u8]) -> Option<usize>
+    ensures { NumberRead digits.now result }
 {
-    for (i, b) in bytes.iter().enumerate() {
-        if !b.is_ascii_digit() {
-            return i;
-        }
+    if digits.len() > 1 && digits[0] == b'0' {
+        return None;
     }
-    bytes.len()
+    if digits.starts_with(b"+") || digits.len() > MOST_DIGITS {
+        return None;
+    }
+    str::from_utf8(digits).ok()?.parse().ok()
 }
 
-// The number that at most four digits write.
-fn digits_value(digits: &[u8]) -> usize
-    requires short { length digits.now ≤ 4 }
-    requires digits { AllDigits 10 digits.now }
-    ensures { result ≡ digits_value 10 digits.now }
+// Where the byte first stands.
+fn first_index(bytes: &[u8], byte: u8) -> Option<usize>
+    ensures { result ≡ position (λ b. b == byte) bytes.now }
 {
-    let mut number = 0;
-    for b in digits {
-        number = number * 10 + (*b - b'0') as usize;
-    }
-    number
+    bytes.iter().position(|b| *b == byte)
 }
 
 // A number of at most MOST_DIGITS digits without a leading zero, then the byte `end`: the number and the rest.
@@ -51,17 +44,9 @@ fn number(bytes: &[u8], end: u8) -> Option<(usize, &[u8])>
     requires { end < 48 }
     ensures { NumberFirst bytes.now end result }
 {
-    let count = leading_digits(bytes);
-    if count == 0 || count > MOST_DIGITS || count == bytes.len() {
-        return None;
-    }
-    if bytes[count] != end {
-        return None;
-    }
-    if count > 1 && bytes[0] == b'0' {
-        return None;
-    }
-    Some((digits_value(&bytes[0..count]), &bytes[count + 1..]))
+    let count = first_index(bytes, end)?;
+    let number = short_number(&bytes[..count])?;
+    Some((number, &bytes[count + 1..]))
 }
 
 // The name of a kind, then a tab: the kind and the rest.
@@ -71,27 +56,37 @@ fn kind(bytes: &[u8]) -> Option<(Kind, &[u8])>
     if let Some(rest) = bytes.strip_prefix(b"shout\t") {
         return Some((Kind::Shout, rest));
     }
-    if let Some(rest) = bytes.strip_prefix(b"twist\t") {
-        return Some((Kind::Twist, rest));
-    }
-    None
+    let rest = bytes.strip_prefix(b"twist\t")?;
+    Some((Kind::Twist, rest))
+}
+
+fn first_job(input: &[u8]) -> Option<Job>
+    ensures { JobRead input.now result }
+{
+    let (kind, rest) = kind(input)?;
+    let (d, rest) = number(rest, b'\t')?;
+    let (c, rest) = number(rest, b'\t')?;
+    let (t, _) = number(rest, b'\n')?;
+    Some(Job { kind, d, c, t })
 }
 
 // The job whose line the input begins with.
 pub fn read_job(input: &[u8]) -> Result<Job, Refusal>
     ensures { Reads input.now result }
 {
-    let Some((kind, rest)) = kind(input) else {
-        return Err(Refusal::MalformedLine);
-    };
-    let Some((d, rest)) = number(rest, b'\t') else {
-        return Err(Refusal::MalformedLine);
-    };
-    let Some((c, rest)) = number(rest, b'\t') else {
-        return Err(Refusal::MalformedLine);
-    };
-    let Some((t, _)) = number(rest, b'\n') else {
-        return Err(Refusal::MalformedLine);
-    };
-    Ok(Job { kind, d, c, t })
+    first_job(input).ok_or(Refusal::MalformedLine)
+}
+
+// The plan that a job asks for, or the refusal of its sizes.
+impl TryFrom<Job> for Plan {
+    type Error = Refusal;
+
+    ghost try_from_gives = { λ job plan. plan ≡ plan_of job };
+
+    fn try_from(job: Job) -> Result<Plan, Refusal> {
+        Ok(Plan {
+            kind: job.kind,
+            sizes: Sizes::new(job.d, job.c, job.t)?,
+        })
+    }
 }

@@ -1,83 +1,103 @@
 // The text that answers a job's line.
-ghost use Rattle.std.specs.Prelude.{◌≡◌, IfOk, string_bytes};
+ghost use Rattle.std.specs.Prelude.{◌≡◌, Some, IfOk, string_bytes};
 ghost use Rattle.stages.specs.Plan.{bounds};
-ghost use Rattle.texts.specs.Pages.{stage_name, chunk_name, table_name, comma_list, stage_line, plan_text, refusal_text, Answers};
+ghost use Rattle.texts.specs.Pages.{table_name, comma_list, stage_line, plan_text, refusal_text, Answers};
 
-use crate::job::{Job, read_job};
+use crate::job::read_job;
 use fields::refusal::Refusal;
-use stages::plan::{ChunkTable, Plan, Stage};
+use stages::plan::{Plan, Stage};
 use std::alloc::{AllocError, Global};
-use tables::size::Sizes;
+use std::fmt;
 
-fn stage_name(stage: Stage) -> &'static str
-    ensures { result.now ≡ stage_name stage }
-{
-    match stage {
-        Stage::Bits(_) => "bits",
-        Stage::Row(_) => "row",
-        Stage::Read => "read",
-        Stage::Write => "write",
-        Stage::Value => "value",
-    }
-}
+// The chunk table of a stage, or - if it has none.
+#[derive(Clone, Copy)]
+struct TableName(Stage);
 
-fn chunk_name(heap: Global, table: ChunkTable) -> Result<String, AllocError>
-    ensures { IfOk result (λ s. string_bytes s ≡ chunk_name table) }
-{
-    match table {
-        ChunkTable::Ra(i) => format!(in heap; "RA{i}"),
-        ChunkTable::Wa(i) => format!(in heap; "WA{i}"),
-    }
-}
+impl fmt::Display for TableName {
+    ghost output = { λ name. Some (table_name name.0) };
 
-fn table_name(heap: Global, stage: Stage) -> Result<String, AllocError>
-    ensures { IfOk result (λ s. string_bytes s ≡ table_name stage) }
-{
-    match stage {
-        Stage::Bits(table) | Stage::Row(table) => chunk_name(heap, table),
-        Stage::Read | Stage::Write | Stage::Value => String::from_str(heap, "-"),
-    }
-}
-
-// The degree bounds of a stage, parted by commas.
-fn bound_list(heap: Global, plan: Plan, stage: Stage) -> Result<String, AllocError>
-    ensures { IfOk result (λ s. string_bytes s ≡ comma_list (bounds plan stage)) }
-{
-    let Some(first) = plan.bound_at(stage, 1) else {
-        return String::from_str(heap, "-");
-    };
-    let mut text = format!(in heap; "{first}")?;
-    for round in 1..plan.rounds(stage) {
-        if let Some(bound) = plan.bound_at(stage, round + 1) {
-            let next = format!(in heap; ",{bound}")?;
-            text.push_str(next.as_str())?;
+    fn fmt<W: fmt::Write>(&self, f: &mut fmt::Formatter<W>) -> fmt::Result {
+        match self.0 {
+            Stage::Bits(table) | Stage::Row(table) => write!(f, "{table}"),
+            Stage::Read | Stage::Write | Stage::Value => write!(f, "-"),
         }
     }
-    Ok(text)
 }
 
-fn stage_line(heap: Global, plan: Plan, number: usize, stage: Stage) -> Result<String, AllocError>
-    ensures { IfOk result (λ s. string_bytes s ≡ stage_line plan number stage) }
-{
-    let name = stage_name(stage);
-    let table = table_name(heap, stage)?;
-    let draws = plan.draws(stage);
-    let bounds = bound_list(heap, plan, stage)?;
-    format!(in heap; "{number}\t{name}\t{table}\t{draws}\t{bounds}\n")
+// The degree bounds of a stage, parted by commas, or - if it has no rounds.
+#[derive(Clone, Copy)]
+struct BoundList {
+    plan: Plan,
+    stage: Stage,
 }
 
-// A line for each stage of the plan.
+impl fmt::Display for BoundList {
+    ghost output = { λ list. Some (comma_list (bounds list.plan list.stage)) };
+
+    fn fmt<W: fmt::Write>(&self, f: &mut fmt::Formatter<W>) -> fmt::Result {
+        let BoundList { plan, stage } = *self;
+        let Some(first) = plan.bound_at(stage, 1) else {
+            return write!(f, "-");
+        };
+        write!(f, "{first}")?;
+        for round in 2..=plan.rounds(stage) {
+            let bound = plan.bound_at(stage, round).unwrap();
+            write!(f, ",{bound}")?;
+        }
+        Ok(())
+    }
+}
+
+// The number of a stage, its name, chunk table, draws and bounds, parted by tabs.
+#[derive(Clone, Copy)]
+struct StageLine {
+    plan: Plan,
+    number: usize,
+    stage: Stage,
+}
+
+impl fmt::Display for StageLine {
+    ghost output = { λ line. Some (stage_line line.plan line.number line.stage) };
+
+    fn fmt<W: fmt::Write>(&self, f: &mut fmt::Formatter<W>) -> fmt::Result {
+        let StageLine {
+            plan,
+            number,
+            stage,
+        } = *self;
+        let table = TableName(stage);
+        let draws = plan.draws(stage);
+        let bounds = BoundList { plan, stage };
+        write!(f, "{number}\t{stage}\t{table}\t{draws}\t{bounds}\n")
+    }
+}
+
+// A line for each stage of a plan.
+#[derive(Clone, Copy)]
+struct PlanText(Plan);
+
+impl fmt::Display for PlanText {
+    ghost output = { λ text. Some (plan_text text.0) };
+
+    fn fmt<W: fmt::Write>(&self, f: &mut fmt::Formatter<W>) -> fmt::Result {
+        let plan = self.0;
+        for number in 1..=plan.stage_count() {
+            let stage = plan.stage_at(number).unwrap();
+            let line = StageLine {
+                plan,
+                number,
+                stage,
+            };
+            write!(f, "{line}")?;
+        }
+        Ok(())
+    }
+}
+
 pub fn plan_text(heap: Global, plan: Plan) -> Result<String, AllocError>
     ensures { IfOk result (λ s. string_bytes s ≡ plan_text plan) }
 {
-    let mut text = String::new(heap);
-    for index in 0..plan.stage_count() {
-        if let Some(stage) = plan.stage_at(index + 1) {
-            let line = stage_line(heap, plan, index + 1, stage)?;
-            text.push_str(line.as_str())?;
-        }
-    }
-    Ok(text)
+    PlanText(plan).to_string(heap)
 }
 
 pub fn refusal_text(heap: Global, refusal: Refusal) -> Result<String, AllocError>
@@ -91,11 +111,8 @@ pub fn refusal_text(heap: Global, refusal: Refusal) -> Result<String, AllocError
 pub fn answer(heap: Global, input: &[u8]) -> Result<String, AllocError>
     ensures { IfOk result (λ s. Answers input.now (string_bytes s)) }
 {
-    match read_job(input) {
+    match read_job(input).and_then(Plan::try_from) {
+        Ok(plan) => plan_text(heap, plan),
         Err(refusal) => refusal_text(heap, refusal),
-        Ok(Job { kind, d, c, t }) => match Sizes::new(d, c, t) {
-            Err(refusal) => refusal_text(heap, refusal),
-            Ok(sizes) => plan_text(heap, Plan { kind, sizes }),
-        },
     }
 }

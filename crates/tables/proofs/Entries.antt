@@ -1,11 +1,14 @@
 -- The answers of a table given by the entry at each index, and of an extension.
-use Rattle.std.proofs.Common.{◌≡◌, ℕ, ◌^◌, ◌<◌, ◌≤◌, true, eqb, List, length, get_or, Ok, sym, ap, ◌∙◌, arith, lt-ltb, eq-eqb}
+use Rattle.std.proofs.Common.{◌≡◌, ℕ, ◌^◌, ◌<◌, ◌≤◌, true, eqb, List, length, get_or, take, Ok, Result, sym, ap, ◌∙◌, arith, length-take-le, get_or-take, lt-ltb, eq-eqb, true-eqb}
 use Rattle.std.proofs.lemmas.List.FromFn.{get_or-map-range_with_len}
 use Rattle.fields.specs.Fields.{FieldOf, elements}
+use Rattle.fields.specs.declared.refusal.Refusal.{Refusal}
 use Rattle.tables.specs.Limits.{most_variables}
 use Rattle.tables.specs.Formulas.{extension}
-use Rattle.tables.specs.Tables.{tabulate, table_of, entry, opened, entry_answer, variables_in, on_table}
+use Rattle.tables.specs.Tables.{tabulate, table_of, entry, opened, entry_answer, variables_in, variables_upto_few, on_table}
+use Rattle.tables.specs.Kinds.{plain_table}
 use Rattle.tables.proofs.Extension.{ext_cong}
+use Rattle.tables.proofs.Variables.{variables_of_power}
 
 pub get_or-tabulate : {A : Type 0} (n i : ℕ) (g : ℕ → A) (d : A) → i < n → get_or (tabulate n g) i d ≡ g i
 get_or-tabulate n i g d h = get_or-map-range_with_len g 0 n i i d h (omega arith)
@@ -22,3 +25,17 @@ module _ {F : Type 0} (f : FieldOf F) (n : ℕ) (few : n ≤ most_variables) (g 
 pub on_fitting_table : {F : Type 0} (f : FieldOf F) (es p : List F) (v : F) → length es ≡ 2 ^ variables_in (length es)
     → eqb (length p) (variables_in (length es)) ≡ true → Ok v ≡ on_table f es p v
 on_fitting_table f es p v h k = rw (eq-eqb (2 ^ variables_in (length es)) (length es) (sym h), k)
+
+-- a list opens as the first 2^n of its entries, for the largest n that it is long enough for
+pub opens_part : {F : Type 0} (f : FieldOf F) (es p : List F) (m : ℕ) (r : Result F Refusal) → r ≡ on_table f (take m es) p (extension f (elements f) (length p) (entry f (take m es)) p)
+    → m ≡ 2 ^ variables_in (length es) → m ≤ length es → true ≡ eqb (length p) (variables_in (length es)) → r ≡ opened f (plain_table f es) p
+opens_part f es p m r e size enough fit =
+    let n = variables_in (length es) in
+    let few = variables_upto_few most_variables (length es) in
+    let long : length (take m es) ≡ 2 ^ n = length-take-le m es enough ∙ size in
+    let own : variables_in (length (take m es)) ≡ n = ap variables_in long ∙ variables_of_power most_variables n few in
+    e
+    ∙ sym (on_fitting_table f (take m es) p _ (long ∙ ap (λ (k : ℕ). 2 ^ k) (sym own)) (ap (eqb (length p)) own ∙ sym fit))
+    ∙ opens f n few (entry f es) p _ fit
+    (ap (λ (k : ℕ). extension f (elements f) k (entry f (take m es)) p) (true-eqb (length p) n fit)
+    ∙ ext_cong f n (entry f (take m es)) (entry f es) p (λ i h. get_or-take m es i f.zero (omega arith)))

@@ -1,7 +1,7 @@
 -- The extension of a list by its two halves, and of lists of two and four entries.
-use Rattle.std.proofs.Common.{◌≡◌, ℕ, suc, ◌+◌, ◌-◌, ◌/◌, ◌^◌, ◌<◌, List, [], ◌∷◌, length, get_or, take, drop, sym, refl, ap, ◌∙◌, ap₂, arith, length-drop, length-take, get_or-drop, get_or-take}
+use Rattle.std.proofs.Common.{◌≡◌, ℕ, suc, ◌+◌, ◌-◌, ◌/◌, ◌^◌, ◌<◌, List, [], ◌∷◌, ◌++◌, length, get_or, take, drop, sym, refl, ap, ◌∙◌, ap₂, arith, get_or-drop, get_or-take}
 use native.Mathlib.Nat.{two-pow-succ}
-use Rattle.std.proofs.lemmas.Slice.{between_to_end, first_rest}
+use Rattle.std.proofs.lemmas.Slice.{first_rest}
 use Rattle.fields.specs.Fields.{FieldOf, elements}
 use Rattle.tables.specs.Formulas.{between, extension}
 use Rattle.tables.specs.Tables.{entry}
@@ -11,31 +11,15 @@ use Rattle.tables.proofs.Extension.{ext_cong, ext_none, ext_halves}
 abbrev pub rest : {A : Type 0} → List A → List A
 rest p = take (length p - 1) (drop 1 p)
 
--- the halves of a list, as the code takes them
-abbrev pub low_half : {A : Type 0} → List A → List A
-low_half es = take (length es / 2 - 0) es
-
-abbrev pub high_half : {A : Type 0} → List A → List A
-high_half es = take (length es - length es / 2) (drop (length es / 2) es)
-
 pub first_and_rest : {A : Type 0} (p : List A) (x : A) → 0 < length p → x ≡ get_or p 0 x → p ≡ x ∷ rest p
 first_and_rest p x h is = first_rest p x h ∙ ap (λ y. y ∷ rest p) (sym is)
 
-module _ {A : Type 0} (es : List A) (n : ℕ) (fits : length es ≡ 2 ^ suc n) where
-  half : length es / 2 ≡ 2 ^ n
-  half = let p = two-pow-succ n in omega arith
+half : (m n : ℕ) → m ≡ 2 ^ suc n → m / 2 ≡ 2 ^ n
+half m n fits = let p = two-pow-succ n in omega arith
 
-  low_is : low_half es ≡ take (2 ^ n) es
-  low_is = let e : length es / 2 - 0 ≡ 2 ^ n = omega (arith, half) in ap (λ (m : ℕ). take m es) e
-
-  high_is : high_half es ≡ drop (2 ^ n) es
-  high_is = between_to_end es (length es / 2) (length es) (omega arith) ∙ ap (λ (m : ℕ). drop m es) half
-
-  pub low-length : length (low_half es) ≡ 2 ^ n
-  low-length = ap length low_is ∙ (let p = two-pow-succ n in simp length-take (omega arith))
-
-  pub high-length : length (high_half es) ≡ 2 ^ n
-  high-length = ap length high_is ∙ (let p = two-pow-succ n in simp length-drop (omega arith))
+-- the corners of p and q are twice those without the first element of p
+pub twice_rest : {A : Type 0} (p q : List A) → A → 0 < length p → 2 ^ length (p ++ q) ≡ 2 ^ length (rest p ++ q) + 2 ^ length (rest p ++ q)
+twice_rest p q d h = ap (λ z. 2 ^ length (z ++ q)) (first_rest p d h) ∙ two-pow-succ (length (rest p ++ q))
 
 module _ {F : Type 0} (f : FieldOf F) where
   -- the extension of a list at a point
@@ -43,25 +27,25 @@ module _ {F : Type 0} (f : FieldOf F) where
   value es p = extension f (elements f) (length p) (entry f es) p
 
   -- the extensions of the halves make up that of the list
-  pub value_halves : (es p q : List F) (x a b : F) → p ≡ x ∷ q → length es ≡ 2 ^ length p → a ≡ value (low_half es) q → b ≡ value (high_half es) q
-      → between f (elements f) x a b ≡ value es p
-  value_halves es p q x a b s fits ea eb =
+  pub value_halves : (es low high p q : List F) (x a b : F) → low ≡ take (length es / 2) es → high ≡ drop (length es / 2) es → p ≡ x ∷ q → length es ≡ 2 ^ length p
+      → a ≡ value low q → b ≡ value high q → between f (elements f) x a b ≡ value es p
+  value_halves es low high p q x a b l h s fits ea eb =
       let n = length q in
-      let fits' : length es ≡ 2 ^ suc n = fits ∙ ap (λ (z : List F). 2 ^ length z) s in
+      let middle = half (length es) n (fits ∙ ap (λ (z : List F). 2 ^ length z) s) in
       let lower : a ≡ extension f (elements f) n (entry f es) q =
-      ea ∙ ap (λ z. value z q) (low_is es n fits') ∙ ext_cong f n (entry f (take (2 ^ n) es)) (entry f es) q (λ i h. get_or-take (2 ^ n) es i f.zero h) in
+      ea ∙ ap (λ z. value z q) (l ∙ ap (λ (m : ℕ). take m es) middle) ∙ ext_cong f n (entry f (take (2 ^ n) es)) (entry f es) q (λ i k. get_or-take (2 ^ n) es i f.zero k) in
       let upper : b ≡ extension f (elements f) n (λ i. entry f es (2 ^ n + i)) q =
-      eb ∙ ap (λ z. value z q) (high_is es n fits') ∙ ext_cong f n (entry f (drop (2 ^ n) es)) (λ i. entry f es (2 ^ n + i)) q (λ i h. get_or-drop (2 ^ n) es i f.zero) in
+      eb ∙ ap (λ z. value z q) (h ∙ ap (λ (m : ℕ). drop m es) middle) ∙ ext_cong f n (entry f (drop (2 ^ n) es)) (λ i. entry f es (2 ^ n + i)) q (λ i k. get_or-drop (2 ^ n) es i f.zero) in
       ap₂ (between f (elements f) x) lower upper ∙ sym (ext_halves f n (entry f es) x q) ∙ ap (value es) (sym s)
 
   value_one : (a : F) → a ≡ value (a ∷ []) []
   value_one a = sym (ext_none f (entry f (a ∷ [])) [])
 
   value_two : (x a b : F) → between f (elements f) x a b ≡ value (a ∷ b ∷ []) (x ∷ [])
-  value_two x a b = value_halves (a ∷ b ∷ []) (x ∷ []) [] x a b refl refl (value_one a) (value_one b)
+  value_two x a b = value_halves (a ∷ b ∷ []) (a ∷ []) (b ∷ []) (x ∷ []) [] x a b refl refl refl refl (value_one a) (value_one b)
 
   value_four : (x y a b c d : F) → between f (elements f) x (between f (elements f) y a b) (between f (elements f) y c d) ≡ value (a ∷ b ∷ c ∷ d ∷ []) (x ∷ y ∷ [])
-  value_four x y a b c d = value_halves (a ∷ b ∷ c ∷ d ∷ []) (x ∷ y ∷ []) (y ∷ []) x _ _ refl refl (value_two y a b) (value_two y c d)
+  value_four x y a b c d = value_halves (a ∷ b ∷ c ∷ d ∷ []) (a ∷ b ∷ []) (c ∷ d ∷ []) (x ∷ y ∷ []) (y ∷ []) x _ _ refl refl refl refl (value_two y a b) (value_two y c d)
 
   -- the same for a list and a point whose elements were read
   pub read_one : (es p : List F) (a : F) → length p ≡ 0 → length es ≡ 2 ^ length p → a ≡ get_or es 0 a → a ≡ value es p

@@ -1,5 +1,5 @@
 pub mod Made
-pub mod Points
+pub mod Folds
 pub mod Variables
 pub mod Sums
 pub mod Cube
@@ -9,7 +9,8 @@ pub mod Weights
 pub mod Entries
 pub mod Doubling
 pub mod Hot
-pub mod Addresses
+pub mod Ranged
+pub mod OneHots
 pub mod Placed
 pub mod Cells
 pub mod Filling

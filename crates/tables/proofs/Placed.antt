@@ -1,9 +1,9 @@
 -- Lists of which the first places are written.
-use Rattle.std.proofs.Common.{◌≡◌, ℕ, suc, ◌+◌, ◌<◌, ◌≤◌, ◌≢◌, List, [], ◌∷◌, ◌++◌, length, get_or, take, drop, set, sym, ap, ◌∙◌, ap₂, append_assoc, add-one, arith, length-append, length-drop, length-set, drop-cons, get_or-set_other, get_or-set_same, take_at}
+use Rattle.std.proofs.Common.{◌≡◌, ℕ, zero, suc, ◌+◌, ◌<◌, ◌≤◌, ◌≢◌, List, [], ◌∷◌, ◌++◌, length, get_or, take, drop, set, sym, refl, ap, ◌∙◌, ap₂, append_assoc, add-one, arith, length-append, length-drop, length-set, drop-cons, get_or-set_other, get_or-set_same, take_at}
 use native.Mathlib.Decide.{ℕ_discrete}
 use lib.ListN.{get_or-append}
 use lib.Seq.{set_at, set-append_left}
-use Rattle.std.proofs.lemmas.Slice.{drop-append-drop}
+use Rattle.std.specs.List.{FoldsTo}
 use Rattle.std.proofs.lemmas.List.FromFn.{length-map-range_with_len, map-range_with_len_more, fill_by_all}
 use Rattle.tables.specs.Tables.{tabulate}
 use Rattle.tables.specs.Maker.{placed}
@@ -47,10 +47,11 @@ pub placed_cong : {A : Type 0} (g h : ℕ → A) (old : List A) (n : ℕ) → A 
 placed_cong g h old n d e =
     ap (λ z. z ++ drop n old) (fill_by_all h (tabulate n g) n d (length-tabulate n g) (λ k b. get_or-tabulate n k g d b ∙ e k b))
 
--- what was placed before is written over
-pub placed-placed : {A : Type 0} (g h : ℕ → A) (old : List A) (n m : ℕ) → m ≤ length old → m ≤ n → placed n g (placed m h old) ≡ placed n g old
-placed-placed g h old n m l le =
-    ap (λ z. tabulate n g ++ z) (drop-append-drop m old (tabulate m h) n le (length-tabulate m h))
-
-pub placed-joined : {A : Type 0} (g : ℕ → A) (old mid new : List A) (n m : ℕ) → mid ≡ placed m g old → new ≡ placed n g mid → m ≤ length old → m ≤ n → new ≡ placed n g old
-placed-joined g old mid new n m e e' l le = e' ∙ ap (placed n g) e ∙ placed-placed g g old n m l le
+-- a list whose items were all given as v, one after another
+pub given_alike : {A P : Type 0} (v : A) (gives : P → A → P → Type 0) (p q : P) (xs : List A) → FoldsTo gives p xs q → ((p : P) (x : A) (q : P) → gives p x q → x ≡ v) → xs ≡ tabulate (length xs) (λ _. v)
+given_alike {A} {P} v gives p q xs run alike = fill_by_all (λ _. v) xs (length xs) v refl (at xs p run)
+  where
+    at : (xs : List A) (p : P) → FoldsTo gives p xs q → (k : ℕ) → k < length xs → get_or xs k v ≡ v
+    at [] p run k b = absurd (omega arith)
+    at (x ∷ xs) p run zero b = alike p x run.0 run.1
+    at (x ∷ xs) p run (suc k) b = at xs run.0 run.2 k (omega arith)

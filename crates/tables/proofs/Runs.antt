@@ -1,5 +1,6 @@
 -- The lists of the run maker are a right run.
-use Rattle.std.proofs.Common.{◌≡◌, ℕ, zero, suc, ◌+◌, ◌*◌, ◌^◌, ◌<◌, Bool, true, false, cond, ◌&&◌, eqb, ltb, leb, List, [], ◌∷◌, length, get_or, take, Ok, Err, Result, sym, refl, ap, ◌∙◌, ap₂, arith, pow_pos, pow-add, ltb-true, leb-true}
+use Rattle.std.proofs.Common.{◌≡◌, ℕ, zero, suc, ◌+◌, ◌*◌, ◌^◌, ◌<◌, Bool, true, false, cond, eqb, leb, List, [], ◌∷◌, length, get_or, take, Ok, Err, Result, sym, refl, ap, ◌∙◌, ap₂, arith, pow_pos, pow-add, leb-true}
+use Rattle.std.proofs.lemmas.Bool.Decides.{nat_tests}
 use mathlib.Core.Path.{transport}
 use native.Mathlib.Decide.{dec_lt}
 use lib.Arith.{digits_lt, digits_div, digits_mod}
@@ -11,30 +12,12 @@ use Rattle.tables.specs.Sizes.{k, cell_count, cycle_count}
 use Rattle.tables.specs.Tables.{tabulate, entry}
 use Rattle.tables.specs.Kinds.{if_all, chunk, one_hot_entry, one_hot_table}
 use Rattle.tables.specs.Run.{cell, Addressed}
-use Rattle.tables.specs.Maker.{placed, has_room, addressed_below, operations_answer, Room, Fitting, operation, read_at, write_at, value_at, held_at, rv_at, increment_at, inc_at, one_hots, RunOf}
+use Rattle.tables.specs.Maker.{placed, addressed_below, operations_answer, Fitting, operation, read_at, write_at, value_at, held_at, rv_at, increment_at, inc_at, one_hots, RunOf}
 use Rattle.tables.specs.declared.size.Sizes.{Sizes}
 use Rattle.tables.specs.declared.maker.Operation.{Operation}
 use Rattle.tables.proofs.Entries.{get_or-tabulate}
 use Rattle.tables.proofs.Placed.{take-placed}
 use Rattle.tables.proofs.Cells.{cell_cong}
-
-both : (a b : Bool) → (a && b) ≡ true → (a ≡ true) × (b ≡ true)
-both true b h = (refl, h)
-both false b h = (h, cc)
-
-pub room : (s : Sizes) (reads writes rv wv inc : ℕ) → has_room s reads writes rv wv inc ≡ true → Room s reads writes rv wv inc
-room s reads writes rv wv inc h =
-    let h₄ = both _ (leb (cell_count s * cycle_count s) inc) h in
-    let h₃ = both _ (leb (cycle_count s) wv) h₄.0 in
-    let h₂ = both _ (leb (cycle_count s) rv) h₃.0 in
-    let h₁ = both (leb (cycle_count s) reads) (leb (cycle_count s) writes) h₂.0 in
-    record {
-      in_reads = leb-true (cycle_count s) reads h₁.0;
-      in_writes = leb-true (cycle_count s) writes h₁.1;
-      in_rv = leb-true (cycle_count s) rv h₂.1;
-      in_wv = leb-true (cycle_count s) wv h₃.1;
-      in_inc = leb-true (cell_count s * cycle_count s) inc h₄.1;
-    }
 
 -- a walk that ended well passed every item
 all_passed : {X A : Type 0} (ranged : X → Bool) (j : ℕ) (xs : List X) (v : Result A Refusal) (a : A) → if_all ranged j xs v ≡ Ok a
@@ -61,8 +44,8 @@ fitting s ops h =
     let passed = all_passed (addressed_below (cell_count s)) 0 ops _ tt h in
     record {
       few = leb-true (length ops) (cycle_count s) (counted (leb (length ops) (cycle_count s)) passed.0);
-      reads_below = λ j o b. ltb-true (get_or ops j o).read (cell_count s) (both _ (ltb (get_or ops j o).write (cell_count s)) (passed.1 j o b)).0;
-      writes_below = λ j o b. ltb-true (get_or ops j o).write (cell_count s) (both (ltb (get_or ops j o).read (cell_count s)) _ (passed.1 j o b)).1;
+      reads_below = λ j o b. let both = passed.1 j o b in grind (arith, nat_tests);
+      writes_below = λ j o b. let both = passed.1 j o b in grind (arith, nat_tests);
     }
 
 module _ {F : Type 0} (f : FieldOf F) (s : Sizes) where

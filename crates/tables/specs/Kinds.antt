@@ -1,13 +1,14 @@
 -- What the kinds of tables mean, and the answers of the calls that make them.
-use Rattle.std.specs.Prelude.{ℕ, suc, ◌+◌, ◌-◌, ◌*◌, ◌/◌, ◌%◌, ◌^◌, Bool, cond, ◌&&◌, List, [], ◌∷◌, length, Ok, Err, Result, ◌==◌, nat_le, nat_lt, slice_index}
+use Rattle.std.specs.Prelude.{ℕ, suc, ◌+◌, ◌-◌, ◌*◌, ◌/◌, ◌%◌, ◌^◌, ◌≤◌, Bool, cond, List, [], ◌∷◌, length, Ok, Err, Result, ◌==◌, nat_le, nat_lt, slice_index}
 use Rattle.std.specs.Borrow.{Bor}
 use Rattle.std.proofs.Common.{leb→le}
+use Rattle.std.proofs.Math.Facts.{eqb_yes}
 use Rattle.fields.specs.Fields.{FieldOf, ones}
 use Rattle.fields.specs.declared.refusal.Refusal.{Refusal}
 use Rattle.fields.specs.declared.refusal.Refusal.TheVariants.{OutsideLimits, AddressTooLarge, WrongCount}
 use Rattle.tables.specs.Limits.{most_variables}
 use Rattle.tables.specs.Bounds.{bounds}
-use Rattle.tables.specs.Sizes.{if_holds, sizes_or_smallest, cell_count, cycle_count}
+use Rattle.tables.specs.Sizes.{if_holds, cell_count, cycle_count}
 use Rattle.tables.specs.Tables.{Table, table_of, variables_in, variables_upto_few, is_table, entry}
 use Rattle.tables.specs.declared.size.Sizes.{Sizes}
 use Rattle.tables.specs.declared.plain.PlainList.{PlainList}
@@ -39,10 +40,6 @@ abbrev pub one_hot_table : {F : Type 0} → FieldOf F → Sizes → ℕ → List
 one_hot_table f s i addresses =
     table_of (s.c + s.t) (bounds s.d s.c s.t s.ok).chunk_variables (one_hot_entry f s i addresses)
 
--- what a one-hot table means that holds sizes by their numbers; the calls that make one keep them within the limits
-abbrev pub one_hot_meaning : {F : Type 0} → FieldOf F → OneHot → Table F
-one_hot_meaning f m = one_hot_table f (sizes_or_smallest m.d m.c m.t) m.chunk m.addresses.now
-
 -- the answer v, if all of the items, numbered from j, have their addresses in range
 abbrev pub if_all : {X A : Type 0} → (X → Bool) → ℕ → List X → Result A Refusal → Result A Refusal
 if_all ranged j [] v = v
@@ -52,20 +49,24 @@ if_all ranged j (x ∷ rest) v = let others = if_all ranged (suc j) rest v in co
 abbrev pub address_below : ℕ → ℕ → Bool
 address_below bound address = nat_lt address bound
 
--- one address for each cycle makes a table
-abbrev pub one_hot_counted : Sizes → ℕ → Bor (List ℕ) → Result OneHot Refusal
-one_hot_counted s i addresses =
-    cond (length addresses.now == cycle_count s) (Ok (record { d = s.d; c = s.c; t = s.t; chunk = i; addresses = addresses })) (Err WrongCount)
+-- one address for each cycle makes a table of a chunk from 1 to d
+abbrev pub one_hot_counted : (s : Sizes) (i : ℕ) → 1 ≤ i → i ≤ s.d → Bor (List ℕ) → Result OneHot Refusal
+one_hot_counted s i low high addresses =
+    if_holds (length addresses.now == cycle_count s)
+    (λ e. Ok (record { sizes = s; chunk = i; addresses = addresses; some_chunk = low; chunks = high; counted = eqb_yes e }))
+    (Err WrongCount)
 
 -- the answer to sizes, a chunk and addresses
 abbrev pub one_hot_answer : Sizes → ℕ → Bor (List ℕ) → Result OneHot Refusal
 one_hot_answer s i addresses =
-    cond (nat_le 1 i && nat_le i s.d) (if_all (address_below (cell_count s)) 0 addresses.now (one_hot_counted s i addresses)) (Err OutsideLimits)
+    if_holds (nat_le 1 i)
+    (λ low. if_holds (nat_le i s.d) (λ high. if_all (address_below (cell_count s)) 0 addresses.now (one_hot_counted s i (leb→le 1 i low) (leb→le i s.d high) addresses)) (Err OutsideLimits))
+    (Err OutsideLimits)
 
 -- the counting table: entry i is i ones added up
 abbrev pub counting_table : {F : Type 0} → FieldOf F → Counting → Table F
-counting_table f m = table_of m.variables (leb→le m.variables most_variables m.ok) (ones f)
+counting_table f m = table_of m.variables m.few (ones f)
 
 -- the answer to a number of variables
 abbrev pub counting_answer : ℕ → Result Counting Refusal
-counting_answer n = if_holds (nat_le n most_variables) (λ h. Ok (record { variables = n; ok = h })) (Err OutsideLimits)
+counting_answer n = if_holds (nat_le n most_variables) (λ h. Ok (record { variables = n; few = leb→le n most_variables h })) (Err OutsideLimits)

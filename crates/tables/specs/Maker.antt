@@ -9,6 +9,7 @@ use Rattle.tables.specs.Kinds.{if_all, one_hot_table}
 use Rattle.tables.specs.Run.{cell, TwistRun}
 use Rattle.tables.specs.declared.size.Sizes.{Sizes}
 use Rattle.tables.specs.declared.maker.Operation.{Operation}
+use Rattle.tables.specs.declared.maker.RunLists.{RunLists}
 
 -- the list with g 0, g 1, .. at its first n places, and the others as before
 abbrev pub placed : {A : Type 0} → ℕ → (ℕ → A) → List A → List A
@@ -37,6 +38,14 @@ operations_answer s operations =
 abbrev pub run_answer : {F : Type 0} → Sizes → List (Operation F) → ℕ → ℕ → ℕ → ℕ → ℕ → Result (Unit {0}) Refusal
 run_answer s operations reads writes rv wv inc =
     cond (has_room s reads writes rv wv inc) (operations_answer s operations) (Err TooShort)
+
+-- the lists after a call are those before it, with other entries
+pub record SameLists {F : Type 0} (old new : RunLists F) : Type 0 where
+  pub reads : new.reads.ghost_name ≡ old.reads.ghost_name
+  pub writes : new.writes.ghost_name ≡ old.writes.ghost_name
+  pub rv : new.rv.ghost_name ≡ old.rv.ghost_name
+  pub wv : new.wv.ghost_name ≡ old.wv.ghost_name
+  pub inc : new.inc.ghost_name ≡ old.inc.ghost_name
 
 -- lists of so many places are long enough for a run
 pub record Room (s : Sizes) (reads writes rv wv inc : ℕ) : Type 0 where

@@ -14,10 +14,6 @@ if_holds false made other = other
 abbrev pub sizes_for : ℕ → ℕ → ℕ → Result Sizes Refusal
 sizes_for d c t = if_holds (within d c t) (λ h. Ok (record { d = d; c = c; t = t; ok = h })) (Err OutsideLimits)
 
--- the sizes of three numbers, or the smallest if these are outside the limits
-abbrev pub sizes_or_smallest : ℕ → ℕ → ℕ → Sizes
-sizes_or_smallest d c t = if_holds (within d c t) (λ h. record { d = d; c = c; t = t; ok = h }) (record { d = 1; c = 1; t = 0; ok = tt })
-
 -- the bits of an address
 abbrev pub k : Sizes → ℕ
 k s = s.d * s.c

@@ -1,11 +1,61 @@
 // The counting table, whose entry i is i ones added up.
-ghost use Rattle.std.specs.Prelude.{T, nat_le};
+ghost use Rattle.std.specs.Prelude.{◌≡◌, ◌≤◌};
 ghost use Rattle.tables.specs.Limits.{most_variables};
 
-pub mod opening;
+use crate::formulas::fits;
+use crate::size::MOST_VARIABLES;
+use crate::table::{Committed, Listed};
+use fields::field::Field;
+use fields::refusal::Refusal;
 
-#[derive(Clone, Copy)]
+#[derive(Clone, Copy, PartialEq, Eq, Debug)]
 pub struct Counting {
     variables: usize,
-    ghost ok: { T (nat_le variables most_variables) },
+    ghost few: { variables ≤ most_variables },
+}
+
+impl Counting {
+    ghost use Rattle.tables.specs.Kinds.{counting_answer};
+
+    // The counting table of so many variables.
+    pub fn new(variables: usize) -> Result<Counting, Refusal>
+        ensures { result ≡ counting_answer variables }
+    {
+        if variables > MOST_VARIABLES {
+            return Err(Refusal::OutsideLimits);
+        }
+        Ok(Counting { variables })
+    }
+}
+
+impl<F: Field> Committed<F> for Counting {
+    ghost use Rattle.tables.specs.Kinds.{counting_table};
+
+    ghost table = { λ m. counting_table F.Field.field m };
+
+    fn vars(&self) -> usize {
+        self.variables
+    }
+
+    // The point read as a number in base two, its first element on top.
+    fn open(&self, head: &[F], tail: &[F]) -> Result<F, Refusal> {
+        if !fits(head, tail, self.variables) {
+            return Err(Refusal::OutsideTable);
+        }
+        let point = head.iter().chain(tail);
+        Ok(point.fold(F::zero_element(), |sum, x| sum.plus(sum).plus(*x)))
+    }
+}
+
+impl<F: Field> Listed<F> for Counting {
+    fn entry(&self, index: usize) -> Result<F, Refusal> {
+        if index >= 1 << self.variables {
+            return Err(Refusal::OutsideTable);
+        }
+        let mut sum = F::zero_element();
+        for _ in 0..index {
+            sum = sum.plus(F::one_element());
+        }
+        Ok(sum)
+    }
 }

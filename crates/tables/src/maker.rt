@@ -4,18 +4,27 @@ ghost use Rattle.fields.specs.Fields.{less};
 ghost use Rattle.tables.specs.Sizes.{cell_count, cycle_count};
 ghost use Rattle.tables.specs.Tables.{entry};
 ghost use Rattle.tables.specs.Run.{cell};
-ghost use Rattle.tables.specs.Maker.{Room, Fitting, placed, if_made, has_room, addressed_below, operations_answer, run_answer, RunOf, read_at, write_at, value_at, rv_at, inc_at};
+ghost use Rattle.tables.specs.Maker.{Room, Fitting, SameLists, placed, if_made, has_room, addressed_below, operations_answer, run_answer, RunOf, read_at, write_at, value_at, rv_at, inc_at};
 
+use crate::addresses::{Addressed, check_addresses};
 use crate::size::Sizes;
 use fields::field::Field;
 use fields::refusal::Refusal;
 
 // A cycle of a run: a cell is read, and then one is written.
-#[derive(Clone, Copy)]
+#[derive(Clone, Copy, PartialEq, Eq, Debug)]
 pub struct Operation<F> {
     pub read: usize,
     pub write: usize,
     pub value: F,
+}
+
+impl<F> Addressed for Operation<F> {
+    ghost below = { addressed_below };
+
+    fn is_below(&self, cells: usize) -> bool {
+        self.read < cells && self.write < cells
+    }
 }
 
 // Writes zero at the first places of a list.
@@ -23,102 +32,89 @@ fn clear<F: Field>(list: &mut [F], count: usize)
     requires { count ≤ length list.old }
     ensures { list.new ≡ placed count (λ _. F.Field.field.zero) list.old }
 {
-    for i in 0..count {
-        list[i] = F::zero_element();
-    }
+    list[..count].fill_with(|| F::zero_element());
 }
 
-// What a cell holds before a cycle, from the writes of the cycles before.
-fn held<F: Field>(writes: &[usize], wv: &[F], address: usize, cycle: usize) -> F
-    requires { (cycle ≤ length writes.now) × (cycle ≤ length wv.now) }
-    ensures { result ≡ cell F.Field.field (λ j. slice_index writes.now j) (entry F.Field.field wv.now) address cycle }
-{
-    for j in (0..cycle).rev() {
-        if writes[j] == address {
-            return wv[j];
+// The lists that a run is written to: the addresses read and written, RV, WV and INC.
+#[derive(Drop, Debug)]
+pub struct RunLists<'a, F> {
+    pub reads: &'a mut [usize],
+    pub writes: &'a mut [usize],
+    pub rv: &'a mut [F],
+    pub wv: &'a mut [F],
+    pub inc: &'a mut [F],
+}
+
+impl<'a, F: Field> RunLists<'a, F> {
+    // Whether the lists are long enough.
+    fn has_room(&self, sizes: Sizes) -> bool
+        ensures { result ≡ has_room sizes (length self.now.reads.now) (length self.now.writes.now) (length self.now.rv.now) (length self.now.wv.now) (length self.now.inc.now) }
+    {
+        let cycles = sizes.cycles();
+        cycles <= self.reads.len()
+            && cycles <= self.writes.len()
+            && cycles <= self.rv.len()
+            && cycles <= self.wv.len()
+            && sizes.cells() * cycles <= self.inc.len()
+    }
+
+    // What a cell holds before a cycle, from the writes of the cycles before.
+    fn held(&self, address: usize, cycle: usize) -> F
+        requires { (cycle ≤ length self.now.writes.now) × (cycle ≤ length self.now.wv.now) }
+        ensures { result ≡ cell F.Field.field (λ j. slice_index self.now.writes.now j) (entry F.Field.field self.now.wv.now) address cycle }
+    {
+        let writes = &self.writes[..cycle];
+        match writes.iter().rposition(|cell| *cell == address) {
+            Some(j) => self.wv[j],
+            None => F::zero_element(),
         }
     }
-    F::zero_element()
-}
 
-// Enters one cycle: what the read cell holds, what is written, and by how much the written cell grows.
-fn enter_cycle<F: Field>(
-    sizes: Sizes,
-    cycle: usize,
-    operation: Operation<F>,
-    reads: &mut [usize],
-    writes: &mut [usize],
-    rv: &mut [F],
-    wv: &mut [F],
-    inc: &mut [F],
-)
-    requires lengths { (cycle < length reads.old) × (cycle < length writes.old) × (cycle < length rv.old) × (cycle < length wv.old) }
-    requires place { operation.write * cycle_count sizes + cycle < length inc.old }
-    ensures reads { reads.new ≡ slice_set reads.old cycle operation.read }
-    ensures writes { writes.new ≡ slice_set writes.old cycle operation.write }
-    ensures rv { rv.new ≡ slice_set rv.old cycle (cell F.Field.field (λ j. slice_index writes.old j) (entry F.Field.field wv.old) operation.read cycle) }
-    ensures wv { wv.new ≡ slice_set wv.old cycle operation.value }
-    ensures inc { inc.new ≡ slice_set inc.old (operation.write * cycle_count sizes + cycle) (less F.Field.field operation.value (cell F.Field.field (λ j. slice_index writes.old j) (entry F.Field.field wv.old) operation.write cycle)) }
-{
-    let read = held(writes, wv, operation.read, cycle);
-    let old = held(writes, wv, operation.write, cycle);
-    reads[cycle] = operation.read;
-    writes[cycle] = operation.write;
-    wv[cycle] = operation.value;
-    rv[cycle] = read;
-    inc[operation.write * sizes.cycles() + cycle] = operation.value.minus(old);
-}
-
-// Makes the run of operations that fit the sizes, in lists that are long enough.
-fn fill<F: Field>(
-    sizes: Sizes,
-    operations: &[Operation<F>],
-    reads: &mut [usize],
-    writes: &mut [usize],
-    rv: &mut [F],
-    wv: &mut [F],
-    inc: &mut [F],
-)
-    requires lengths { Room sizes (length reads.old) (length writes.old) (length rv.old) (length wv.old) (length inc.old) }
-    requires operations { Fitting sizes operations.now }
-    ensures reads { reads.new ≡ placed (cycle_count sizes) (read_at F.Field.field operations.now) reads.old }
-    ensures writes { writes.new ≡ placed (cycle_count sizes) (write_at F.Field.field operations.now) writes.old }
-    ensures rv { rv.new ≡ placed (cycle_count sizes) (rv_at F.Field.field operations.now) rv.old }
-    ensures wv { wv.new ≡ placed (cycle_count sizes) (value_at F.Field.field operations.now) wv.old }
-    ensures inc { inc.new ≡ placed (cell_count sizes * cycle_count sizes) (inc_at F.Field.field sizes operations.now) inc.old }
-{
-    clear(inc, sizes.cells() * sizes.cycles());
-    for (j, operation) in operations.iter().enumerate() {
-        enter_cycle(sizes, j, *operation, reads, writes, rv, wv, inc);
-    }
-    let filling = Operation {
-        read: 0,
-        write: 0,
-        value: F::zero_element(),
-    };
-    for j in operations.len()..sizes.cycles() {
-        enter_cycle(sizes, j, filling, reads, writes, rv, wv, inc);
-    }
-}
-
-// Whether lists of so many places are long enough.
-fn has_room(sizes: Sizes, reads: usize, writes: usize, rv: usize, wv: usize, inc: usize) -> bool
-    ensures { result ≡ has_room sizes reads writes rv wv inc }
-{
-    let cycles = sizes.cycles();
-    cycles <= reads
-        && cycles <= writes
-        && cycles <= rv
-        && cycles <= wv
-        && sizes.cells() * cycles <= inc
-}
-
-impl<F: Field> Operation<F> {
-    // Whether both addresses are below a number of cells.
-    fn is_below(self, cells: usize) -> bool
-        ensures { result ≡ addressed_below cells self }
+    // Enters one cycle: what the read cell holds, what is written, and by how much the written cell grows.
+    fn enter_cycle(&mut self, sizes: Sizes, cycle: usize, operation: Operation<F>)
+        requires lengths { (cycle < length self.old.reads.now) × (cycle < length self.old.writes.now) × (cycle < length self.old.rv.now) × (cycle < length self.old.wv.now) }
+        requires place { operation.write * cycle_count sizes + cycle < length self.old.inc.now }
+        ensures same_lists { SameLists self.old self.new }
+        ensures reads { self.new.reads.now ≡ slice_set self.old.reads.now cycle operation.read }
+        ensures writes { self.new.writes.now ≡ slice_set self.old.writes.now cycle operation.write }
+        ensures rv { self.new.rv.now ≡ slice_set self.old.rv.now cycle (cell F.Field.field (λ j. slice_index self.old.writes.now j) (entry F.Field.field self.old.wv.now) operation.read cycle) }
+        ensures wv { self.new.wv.now ≡ slice_set self.old.wv.now cycle operation.value }
+        ensures inc { self.new.inc.now ≡ slice_set self.old.inc.now (operation.write * cycle_count sizes + cycle) (less F.Field.field operation.value (cell F.Field.field (λ j. slice_index self.old.writes.now j) (entry F.Field.field self.old.wv.now) operation.write cycle)) }
     {
-        self.read < cells && self.write < cells
+        let read = self.held(operation.read, cycle);
+        let old = self.held(operation.write, cycle);
+        self.reads[cycle] = operation.read;
+        self.writes[cycle] = operation.write;
+        self.wv[cycle] = operation.value;
+        self.rv[cycle] = read;
+        self.inc[operation.write * sizes.cycles() + cycle] = operation.value.minus(old);
+    }
+
+    // Writes the run of operations that fit the sizes to lists that are long enough.
+    fn fill(&mut self, sizes: Sizes, operations: &[Operation<F>])
+        requires lengths { Room sizes (length self.old.reads.now) (length self.old.writes.now) (length self.old.rv.now) (length self.old.wv.now) (length self.old.inc.now) }
+        requires operations { Fitting sizes operations.now }
+        ensures same_lists { SameLists self.old self.new }
+        ensures reads { self.new.reads.now ≡ placed (cycle_count sizes) (read_at F.Field.field operations.now) self.old.reads.now }
+        ensures writes { self.new.writes.now ≡ placed (cycle_count sizes) (write_at F.Field.field operations.now) self.old.writes.now }
+        ensures rv { self.new.rv.now ≡ placed (cycle_count sizes) (rv_at F.Field.field operations.now) self.old.rv.now }
+        ensures wv { self.new.wv.now ≡ placed (cycle_count sizes) (value_at F.Field.field operations.now) self.old.wv.now }
+        ensures inc { self.new.inc.now ≡ placed (cell_count sizes * cycle_count sizes) (inc_at F.Field.field sizes operations.now) self.old.inc.now }
+    {
+        let cycles = sizes.cycles();
+        let places = sizes.cells() * cycles;
+        clear(self.inc, places);
+        for (j, operation) in operations.iter().enumerate() {
+            self.enter_cycle(sizes, j, *operation);
+        }
+        let filling = Operation {
+            read: 0,
+            write: 0,
+            value: F::zero_element(),
+        };
+        for j in operations.len()..cycles {
+            self.enter_cycle(sizes, j, filling);
+        }
     }
 }
 
@@ -126,49 +122,32 @@ impl<F: Field> Operation<F> {
 fn check_operations<F: Field>(sizes: Sizes, operations: &[Operation<F>]) -> Result<(), Refusal>
     ensures { result ≡ operations_answer sizes operations.now }
 {
-    let cells = sizes.cells();
-    for (j, operation) in operations.iter().enumerate() {
-        if !operation.is_below(cells) {
-            return Err(Refusal::AddressTooLarge(j));
-        }
-    }
+    check_addresses(operations, sizes.cells())?;
     if operations.len() > sizes.cycles() {
         return Err(Refusal::WrongCount);
     }
     Ok(())
 }
 
-// Makes the run of the operations: the lists of read and write addresses, RV, WV and INC.
+// Makes the run of the operations in the lists.
 pub fn make_run<F: Field>(
     sizes: Sizes,
     operations: &[Operation<F>],
-    reads: &mut [usize],
-    writes: &mut [usize],
-    rv: &mut [F],
-    wv: &mut [F],
-    inc: &mut [F],
+    lists: &mut RunLists<'_, F>,
 ) -> Result<(), Refusal>
-    ensures answer { result ≡ run_answer sizes operations.now (length reads.old) (length writes.old) (length rv.old) (length wv.old) (length inc.old) }
-    ensures reads { reads.new ≡ if_made result (placed (cycle_count sizes) (read_at F.Field.field operations.now) reads.old) reads.old }
-    ensures writes { writes.new ≡ if_made result (placed (cycle_count sizes) (write_at F.Field.field operations.now) writes.old) writes.old }
-    ensures rv { rv.new ≡ if_made result (placed (cycle_count sizes) (rv_at F.Field.field operations.now) rv.old) rv.old }
-    ensures wv { wv.new ≡ if_made result (placed (cycle_count sizes) (value_at F.Field.field operations.now) wv.old) wv.old }
-    ensures inc { inc.new ≡ if_made result (placed (cell_count sizes * cycle_count sizes) (inc_at F.Field.field sizes operations.now) inc.old) inc.old }
-    ensures run { result ≡ Ok tt → RunOf F.Field.field sizes operations.now (take (cycle_count sizes) reads.new) (take (cycle_count sizes) writes.new) (take (cycle_count sizes) rv.new) (take (cycle_count sizes) wv.new) (take (cell_count sizes * cycle_count sizes) inc.new) }
+    ensures same_lists { SameLists lists.old lists.new }
+    ensures answer { result ≡ run_answer sizes operations.now (length lists.old.reads.now) (length lists.old.writes.now) (length lists.old.rv.now) (length lists.old.wv.now) (length lists.old.inc.now) }
+    ensures reads { lists.new.reads.now ≡ if_made result (placed (cycle_count sizes) (read_at F.Field.field operations.now) lists.old.reads.now) lists.old.reads.now }
+    ensures writes { lists.new.writes.now ≡ if_made result (placed (cycle_count sizes) (write_at F.Field.field operations.now) lists.old.writes.now) lists.old.writes.now }
+    ensures rv { lists.new.rv.now ≡ if_made result (placed (cycle_count sizes) (rv_at F.Field.field operations.now) lists.old.rv.now) lists.old.rv.now }
+    ensures wv { lists.new.wv.now ≡ if_made result (placed (cycle_count sizes) (value_at F.Field.field operations.now) lists.old.wv.now) lists.old.wv.now }
+    ensures inc { lists.new.inc.now ≡ if_made result (placed (cell_count sizes * cycle_count sizes) (inc_at F.Field.field sizes operations.now) lists.old.inc.now) lists.old.inc.now }
+    ensures run { result ≡ Ok tt → RunOf F.Field.field sizes operations.now (take (cycle_count sizes) lists.new.reads.now) (take (cycle_count sizes) lists.new.writes.now) (take (cycle_count sizes) lists.new.rv.now) (take (cycle_count sizes) lists.new.wv.now) (take (cell_count sizes * cycle_count sizes) lists.new.inc.now) }
 {
-    if !has_room(
-        sizes,
-        reads.len(),
-        writes.len(),
-        rv.len(),
-        wv.len(),
-        inc.len(),
-    ) {
+    if !lists.has_room(sizes) {
         return Err(Refusal::TooShort);
     }
-    if let Err(why) = check_operations(sizes, operations) {
-        return Err(why);
-    }
-    fill(sizes, operations, reads, writes, rv, wv, inc);
+    check_operations(sizes, operations)?;
+    lists.fill(sizes, operations);
     Ok(())
 }

@@ -3,12 +3,13 @@ ghost use Rattle.std.specs.Prelude.{◌≡◌, true, length};
 ghost use Rattle.tables.specs.Tables.{is_table};
 ghost use Rattle.tables.specs.Kinds.{plain_table, plain_answer};
 
-use crate::formulas::{extension_joined, fits, power_of_two, variables_of};
+use crate::formulas::{extension_joined, fits, variables_of};
 use crate::table::{Committed, Listed};
 use fields::field::Field;
 use fields::refusal::Refusal;
 
 #[derive_where(Clone, Copy)]
+#[derive_where(PartialEq, Eq, Debug; F)]
 pub struct PlainList<'a, F> {
     items: &'a [F],
 }
@@ -19,7 +20,7 @@ impl<'a, F: Field> PlainList<'a, F> {
         ensures answer { result ≡ plain_answer items.entry }
         ensures entries { is_table (length items.now) ≡ true → (plain_table F.Field.field items.now).entries ≡ items.now }
     {
-        if items.len() == power_of_two(variables_of(items.len())) {
+        if items.len() == 1 << variables_of(items.len()) {
             Ok(PlainList { items })
         } else {
             Err(Refusal::OutsideLimits)
@@ -41,17 +42,17 @@ impl<'a, F: Field> Committed<F> for PlainList<'a, F> {
         if !fits(head, tail, n) {
             return Err(Refusal::OutsideTable);
         }
-        if items.len() == 0 {
+        if items.is_empty() {
             return Ok(F::zero_element());
         }
-        extension_joined(&items[0..power_of_two(n)], head, tail)
+        extension_joined(&items[..1 << n], head, tail)
     }
 }
 
 impl<'a, F: Field> Listed<F> for PlainList<'a, F> {
     fn entry(&self, index: usize) -> Result<F, Refusal> {
         let items = self.items;
-        if index >= power_of_two(variables_of(items.len())) {
+        if index >= 1 << variables_of(items.len()) {
             Err(Refusal::OutsideTable)
         } else if index < items.len() {
             Ok(items[index])

@@ -1,7 +1,7 @@
 // The worked examples as calls, the kinds of tables at all corners, and refusals with what they leave as it was.
 use crate::counting::Counting;
 use crate::formulas::{eq_at, extension_at, extension_joined, lt_at};
-use crate::maker::{Operation, make_run};
+use crate::maker::{Operation, RunLists, make_run};
 use crate::one_hot::OneHot;
 use crate::plain::PlainList;
 use crate::size::Sizes;
@@ -15,10 +15,7 @@ use std::test::Fail;
 
 // The element of F31 that means a number below its order.
 fn f31(number: u64) -> F31 {
-    match F31::from_number(number) {
-        Ok(x) => x,
-        Err(_) => F31::ZERO,
-    }
+    F31::from_number(number).unwrap_or(F31::ZERO)
 }
 
 #[test]
@@ -72,8 +69,13 @@ fn kinds_at_corners(rt: HostRuntime) -> Result<(), Fail> {
     );
     opens_to_entries(&rt, &Counting::new(2)?);
     let sizes = Sizes::new(2, 1, 1)?;
-    opens_to_entries(&rt, &OneHot::new(sizes, 1, &[2, 1])?);
-    opens_to_entries(&rt, &OneHot::new(sizes, 2, &[2, 1])?);
+    let chunks = [
+        OneHot::new(sizes, 1, &[2, 1])?,
+        OneHot::new(sizes, 2, &[2, 1])?,
+    ];
+    for table in &chunks[..] {
+        opens_to_entries(&rt, table);
+    }
     Ok(())
 }
 
@@ -88,35 +90,29 @@ fn kinds_refused(rt: HostRuntime) -> Result<(), Fail> {
     Ok(())
 }
 
+// A cycle that reads a cell, and then writes an element to one.
+fn operation(read: usize, write: usize, value: u64) -> Operation<F31> {
+    Operation {
+        read,
+        write,
+        value: f31(value),
+    }
+}
+
 #[test]
 fn run_of_two_operations(rt: HostRuntime) -> Result<(), Fail> {
     let sizes = Sizes::new(1, 1, 1)?;
-    let operations = [
-        Operation {
-            read: 0,
-            write: 1,
-            value: f31(9),
-        },
-        Operation {
-            read: 1,
-            write: 1,
-            value: f31(4),
-        },
-    ];
+    let operations = [operation(0, 1, 9), operation(1, 1, 4)];
     let (mut reads, mut writes) = ([7; 2], [7; 2]);
     let (mut rv, mut wv, mut inc) = ([f31(7); 2], [f31(7); 2], [f31(7); 5]);
-    assert_eq!(rt;
-        make_run(
-            sizes,
-            &operations,
-            &mut reads,
-            &mut writes,
-            &mut rv,
-            &mut wv,
-            &mut inc,
-        ),
-        Ok(())
-    );
+    let mut lists = RunLists {
+        reads: &mut reads,
+        writes: &mut writes,
+        rv: &mut rv,
+        wv: &mut wv,
+        inc: &mut inc,
+    };
+    assert_eq!(rt; make_run(sizes, &operations, &mut lists), Ok(()));
     assert_eq!(rt; (reads, writes), ([0, 1], [1, 1]));
     assert_eq!(rt; (rv, wv), ([f31(0), f31(9)], [f31(9), f31(4)]));
     assert_eq!(rt; inc, [f31(0), f31(0), f31(9), f31(2147483642), f31(7)]);
@@ -126,45 +122,22 @@ fn run_of_two_operations(rt: HostRuntime) -> Result<(), Fail> {
 #[test]
 fn run_is_filled_up(rt: HostRuntime) -> Result<(), Fail> {
     let sizes = Sizes::new(1, 1, 1)?;
-    let operations = [
-        Operation {
-            read: 0,
-            write: 0,
-            value: f31(3),
-        },
-        Operation {
-            read: 2,
-            write: 0,
-            value: f31(0),
-        },
-    ];
+    let operations = [operation(0, 0, 3), operation(2, 0, 0)];
     let (mut reads, mut writes) = ([7; 2], [7; 2]);
     let (mut rv, mut wv, mut inc) = ([f31(7); 2], [f31(7); 2], [f31(7); 4]);
+    let mut lists = RunLists {
+        reads: &mut reads,
+        writes: &mut writes,
+        rv: &mut rv,
+        wv: &mut wv,
+        inc: &mut inc,
+    };
     assert_eq!(rt;
-        make_run(
-            sizes,
-            &operations,
-            &mut reads,
-            &mut writes,
-            &mut rv,
-            &mut wv,
-            &mut inc,
-        ),
+        make_run(sizes, &operations, &mut lists),
         Err(Refusal::AddressTooLarge(1))
     );
-    assert_eq!(rt; reads, [7; 2]);
-    assert_eq!(rt;
-        make_run(
-            sizes,
-            &operations[0..1],
-            &mut reads,
-            &mut writes,
-            &mut rv,
-            &mut wv,
-            &mut inc,
-        ),
-        Ok(())
-    );
+    assert_eq!(rt; &*lists.reads, [7; 2].as_slice());
+    assert_eq!(rt; make_run(sizes, &operations[..1], &mut lists), Ok(()));
     assert_eq!(rt; rv, [f31(0), f31(3)]);
     assert_eq!(rt; inc, [f31(3), f31(2147483644), f31(0), f31(0)]);
     Ok(())

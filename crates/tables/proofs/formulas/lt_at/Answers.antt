@@ -1,18 +1,20 @@
-use Rattle.std.proofs.Common.{length, drop, sym, ap, ◌∙◌}
-use lib.Seq.{drop-length}
-use Rattle.fields.specs.Fields.{elements}
-use Rattle.tables.specs.Formulas.{lt}
-use Rattle.tables.proofs.Points.{drop_read_both}
+use Rattle.std.proofs.Common.{◌≡◌, [], length, Ok, fold, reverse, refl, ap, ◌∙◌, rules, eq-eqb}
+use Rattle.std.specs.List.{zip}
+use Rattle.std.proofs.lemmas.Iterator.{YieldsList-from_zip}
+use Rattle.std.proofs.lemmas.Iterator.Adapters.{YieldsList-from_rev_slice}
+use Rattle.std.proofs.lemmas.Iterator.Consumers.{fold_from_yields_List}
+use Rattle.fields.specs.Fields.{elements, less}
+use Rattle.tables.specs.Formulas.{lt, eq_pair}
+use Rattle.tables.proofs.Folds.{fold_back}
 use Rattle.tables.proofs.formulas.lt_at.Goals as goal
 
-pub loop-i-init : goal.loop-i-init
-loop-i-init g c =
+pub returns : goal.returns
+returns g c =
     let f = g.F.Field.field in
     let xs = c.args.x.now in
-    c.zero_element-less.ensures ∙ ap (λ z. lt f (elements f) z (drop (length xs) c.args.y.now)) (sym (drop-length xs))
-
-pub loop-i-preserved : goal.loop-i-preserved
-loop-i-preserved g c =
-    let f = g.F.Field.field in
-    let next = drop_read_both (lt f (elements f)) c.args.x.now c.args.y.now c.loop-i.i _ _ c.loop-i-test.true c.loop-i.auto.i c.if-x-y.false c.index-x-i.is c.index-y-i.is in
-    cc
+    let ys = c.args.y.now in
+    let step = λ (z : g.row.F.Denot) (ab : g.row.F.Denot × g.row.F.Denot). f.add (f.mul (less f f.one ab.0) ab.1) (f.mul (eq_pair f (elements f) ab.0 ab.1) z) in
+    let pairs = YieldsList-from_zip (YieldsList-from_rev_slice xs (cc)) (YieldsList-from_rev_slice ys (cc)) in
+    let folded : c.fold.result ≡ fold step c.zero_element.result (zip (reverse xs) (reverse ys)) = fold_from_yields_List _ step _ _ c.fold.ensures.ran pairs (λ a x b q k. search rules) in
+    let from_zero = ap (λ z. fold step z (zip (reverse xs) (reverse ys))) c.zero_element.ensures in
+    rw (eq-eqb (length xs) (length ys) c.if-x-y.false) (ap Ok (folded ∙ from_zero ∙ fold_back step (lt f (elements f)) (λ x xs y ys. refl) xs ys [] [] c.if-x-y.false))

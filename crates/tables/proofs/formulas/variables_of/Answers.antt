@@ -1,20 +1,20 @@
-use Rattle.std.proofs.Common.{◌≡◌, ℕ, ◌-◌, ◌^◌, ◌<◌, ◌≤◌, sym, ap, ◌∙◌, arith, rules}
-use Rattle.tables.specs.Tables.{variables_upto}
-use Rattle.tables.proofs.Variables.{variables_enough, variables_fewer}
+use Rattle.std.proofs.Common.{◌≤◌, ◌^◌, sym, ap, ◌∙◌, arith, pow_mono}
+use Rattle.tables.specs.Limits.{most_variables}
+use Rattle.tables.specs.Tables.{variables_upto, variables_in}
+use Rattle.tables.proofs.Variables.{variables_by_logarithm}
 use Rattle.tables.proofs.formulas.variables_of.Goals as goal
 
-pub returns-then-count-n : goal.returns-then-count-n
-returns-then-count-n c =
-    let h : 2 ^ (c.loop-n.n - 1) ≤ c.args.count = search rules in
-    record { value = sym (c.loop-n.invariant ∙ variables_enough (c.loop-n.n - 1) c.args.count (omega arith) h); bound = omega arith; enough = λ k. h }
-
-pub loop-n-preserved : goal.loop-n-preserved
-loop-n-preserved c =
-    let h : c.args.count < 2 ^ (c.loop-n.n - 1) = search rules in
-    c.loop-n.invariant ∙ variables_fewer (c.loop-n.n - 1) c.args.count (omega arith) h
-
-pub returns : goal.returns
+pub returns-then-count-eq0-clause-value : goal.returns-then-count-eq0-clause-value
 unfolding variables_upto
-returns c =
-    let last : c.loop-n.n - 1 ≡ 0 = omega arith in
-    record { value = sym (c.loop-n.invariant ∙ ap (λ (n : ℕ). variables_upto n c.args.count) last); bound = omega arith; enough = λ k. k }
+returns-then-count-eq0-clause-value c = ap variables_in (sym c.if-count-eq0.true)
+
+pub returns-clause-value : goal.returns-clause-value
+returns-clause-value c =
+    let log = c.ilog2.ensures in
+    c.min.ensures ∙ sym (variables_by_logarithm most_variables c.ilog2.result c.args.count log.power_le log.next_power_gt)
+
+pub returns-clause-enough : goal.returns-clause-enough
+returns-clause-enough c = λ _.
+    let fewer : c.min.result ≤ c.ilog2.result = omega arith in
+    let power : 2 ^ c.min.result ≤ 2 ^ c.ilog2.result = pow_mono fewer in
+    omega arith

@@ -1,11 +1,8 @@
-use Rattle.std.proofs.Common.{◌≡◌, ◌-◌, ◌/◌, ◌^◌, length, drop}
-use Rattle.fields.specs.Fields.{elements}
-use Rattle.tables.specs.Formulas.{eq}
-use Rattle.tables.specs.Sums.{corner}
+use Rattle.std.proofs.Common.{◌≡◌}
+use Rattle.tables.proofs.Weights.{weight}
 use Rattle.tables.proofs.formulas.weight.Given as goal
 
-abbrev pub invariant-loop-i : goal.invariant-loop-i
-invariant-loop-i g l =
-    let f = g.F.Field.field in
-    let done = length l.point - l.i in
-    (l.rest ≡ l.number / 2 ^ done) × (l.product ≡ eq f (elements f) (corner f done l.number) (drop l.i l.point))
+-- the weight of the bits and elements that are left, times the product, is the weight of all
+abbrev pub invariant-loop-x : goal.invariant-loop-x
+invariant-loop-x g l =
+    let f = g.F.Field.field in f.mul (weight f l.rest l.x-iterator.iter.rest.now) l.product ≡ weight f l.number l.point

@@ -1,15 +1,13 @@
-use Rattle.std.proofs.Common.{◌≡◌, ℕ, ap, ◌∙◌, arith}
-use Rattle.tables.specs.Maker.{placed}
-use Rattle.tables.proofs.Placed.{placed_more}
+use Rattle.std.proofs.Common.{◌++◌, drop, ap, ◌∙◌, length-take-le, rules}
+use Rattle.tables.specs.Tables.{tabulate}
+use Rattle.tables.proofs.Placed.{given_alike}
 use Rattle.tables.proofs.maker.clear.Goals as goal
-
-pub loop-i-preserved : goal.loop-i-preserved
-loop-i-preserved g c =
-    let f = g.F.Field.field in
-    let next = placed_more (λ _. f.zero) c.args.list.now c.loop-i.i (omega arith) in
-    cc
 
 pub returns : goal.returns
 returns g c =
-    let all : c.loop-i.i ≡ c.args.count = omega arith in
-    c.loop-i.invariant ∙ ap (λ (n : ℕ). placed n (λ _. g.F.Field.field.zero) c.args.list.now) all
+    let zero = g.F.Field.field.zero in
+    let list = c.args.list.now in
+    let run = c.fill_with.ensures.ran in
+    let alike = given_alike zero _ _ run.0 c.fill_with.new.self run.1 (λ p x q k. search rules) in
+    let count = c.fill_with.ensures.len ∙ length-take-le c.args.count list c.requires in
+    ap (λ z. z ++ drop c.args.count list) (alike ∙ ap (λ n. tabulate n (λ _. zero)) count)

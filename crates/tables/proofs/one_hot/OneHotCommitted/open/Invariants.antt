@@ -9,5 +9,6 @@ use Rattle.tables.proofs.one_hot.OneHotCommitted.open.Given as goal
 abbrev pub invariant-loop-j : goal.invariant-loop-j
 invariant-loop-j g l =
     let f = g.F.Field.field in
-    let s = l.sizes in
-    l.sum ≡ sum_below f l.j (λ j. eq f (elements f) (corner f (s.c + s.t) (chunk_of s l.self.chunk l.self.addresses.now j * cycle_count s + j)) (l.head ++ l.tail))
+    let m = l.self in
+    let s = m.sizes in
+    l.sum ≡ sum_below f l.j (λ j. eq f (elements f) (corner f (s.c + s.t) (chunk_of s m.chunk m.addresses.now j * cycle_count s + j)) (l.head ++ l.tail))

@@ -1,0 +1,40 @@
+-- Making a one-hot table: the checks in their order.
+use Rattle.std.proofs.Common.{◌≡◌, ℕ, ◌<◌, ◌≤◌, ◌≢◌, eqb, leb, List, length, Ok, Err, Result, ap, ◌∙◌, ap₂, Bor, ne_eqb}
+use borrow.Author.Tests.{lt-leb}
+use native.Mathlib.Nat.{ℕ_set}
+use Rattle.std.proofs.Math.Bridge.{le_prop}
+use Rattle.std.proofs.Math.Facts.{yes_leb, yes_eqb}
+use Rattle.fields.specs.declared.refusal.Refusal.{Refusal}
+use Rattle.fields.specs.declared.refusal.Refusal.TheVariants.{OutsideLimits, WrongCount}
+use Rattle.tables.specs.Sizes.{cell_count, cycle_count}
+use Rattle.tables.specs.Kinds.{if_all, address_below, one_hot_counted, one_hot_answer}
+use Rattle.tables.specs.declared.size.Sizes.{Sizes}
+use Rattle.tables.specs.declared.one_hot.OneHot.{OneHot}
+use Rattle.tables.proofs.Made.{made_if_holds, other_if_fails}
+
+module _ (s : Sizes) (i : ℕ) (addresses : Bor (List ℕ)) where
+  pub no_chunk_below : i < 1 → Err OutsideLimits ≡ one_hot_answer s i addresses
+  no_chunk_below h = other_if_fails (leb 1 i) _ _ (lt-leb 1 i h)
+
+  pub no_chunk_above : 1 ≤ i → s.d < i → Err OutsideLimits ≡ one_hot_answer s i addresses
+  no_chunk_above low h = other_if_fails (leb i s.d) _ _ (lt-leb i s.d h) ∙ made_if_holds (leb 1 i) (yes_leb low) _ _
+
+  module _ (low : 1 ≤ i) (high : i ≤ s.d) where
+    abbrev pub counted : Result OneHot Refusal
+    counted = one_hot_counted s i low high addresses
+
+    -- for a chunk from 1 to d
+    pub chunk_answer : (cells : ℕ) → cells ≡ cell_count s → if_all (address_below cells) 0 addresses.now counted ≡ one_hot_answer s i addresses
+    chunk_answer cells is =
+        ap (λ (k : ℕ). if_all (address_below k) 0 addresses.now counted) is
+        ∙ ap₂ (λ l h. if_all (address_below (cell_count s)) 0 addresses.now (one_hot_counted s i l h addresses)) (le_prop low _) (le_prop high _)
+        ∙ made_if_holds (leb i s.d) (yes_leb high) _ _
+        ∙ made_if_holds (leb 1 i) (yes_leb low) _ _
+
+    pub wrong_count : length addresses.now ≢ cycle_count s → Err WrongCount ≡ counted
+    wrong_count h = other_if_fails (eqb (length addresses.now) (cycle_count s)) _ _ (ne_eqb (length addresses.now) (cycle_count s) h)
+
+    pub right_count : (e : length addresses.now ≡ cycle_count s) → Ok (record { sizes = s; chunk = i; addresses = addresses; some_chunk = low; chunks = high; counted = e }) ≡ counted
+    right_count e =
+        ap (λ k. Ok (record { sizes = s; chunk = i; addresses = addresses; some_chunk = low; chunks = high; counted = k })) (ℕ_set _ _ e _)
+        ∙ made_if_holds (eqb (length addresses.now) (cycle_count s)) (yes_eqb e) _ _

@@ -1,0 +1,14 @@
+use Rattle.std.proofs.Common.{◌≡◌, ap, ◌∙◌, add-one, arith}
+use Rattle.fields.specs.Fields.{ones}
+use Rattle.tables.proofs.Entries.{gives}
+use Rattle.tables.proofs.counting.CountingListed.entry.Goals as goal
+
+pub loop-preserved : goal.loop-preserved
+loop-preserved g c = rw add-one (cc)
+
+pub returns : goal.returns
+returns g c =
+    let f = g.F.Field.field in
+    let m = c.args.self.now in
+    let all : c.loop.counter ≡ c.args.index = omega arith in
+    gives f m.variables m.few (ones f) c.args.index _ (omega arith) (c.loop.invariant ∙ ap (ones f) all)

@@ -35,7 +35,7 @@ pub enum Stage {
     Value,
 }
 
-#[derive(Clone, Copy)]
+#[derive(Clone, Copy, PartialEq, Eq, Debug)]
 pub struct Plan {
     pub kind: Kind,
     pub sizes: Sizes,

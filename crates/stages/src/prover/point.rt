@@ -4,9 +4,7 @@ ghost use Rattle.tables.specs.Limits.{most_variables};
 ghost use Rattle.tables.specs.Sums.{bit, corner};
 
 use fields::field::Field;
-
-// The most variables of a table.
-const MOST_VARIABLES: usize = 14;
+use tables::size::MOST_VARIABLES;
 
 // A point of up to so many coordinates.
 #[derive(Drop)]

@@ -48,12 +48,6 @@ module _ {F : Type 0} (f : FieldOf F) where
   value_four x y a b c d = value_halves (a ∷ b ∷ c ∷ d ∷ []) (a ∷ b ∷ []) (c ∷ d ∷ []) (x ∷ y ∷ []) (y ∷ []) x _ _ refl refl refl refl (value_two y a b) (value_two y c d)
 
   -- the same for a list and a point whose elements were read
-  pub read_one : (es p : List F) (a : F) → length p ≡ 0 → length es ≡ 2 ^ length p → a ≡ get_or es 0 a → a ≡ value es p
-  read_one (e ∷ []) [] a n fits ea = cc (value_one e)
-  read_one [] [] a n fits ea = absurd (omega arith)
-  read_one (e ∷ g ∷ es) [] a n fits ea = absurd (omega arith)
-  read_one es (u ∷ p) a n fits ea = absurd (omega arith)
-
   pub read_two : (es p : List F) (x a b : F) → length p ≡ 1 → length es ≡ 2 ^ length p → x ≡ get_or p 0 x → a ≡ get_or es 0 a → b ≡ get_or es 1 b
       → between f (elements f) x a b ≡ value es p
   read_two (e ∷ g ∷ []) (u ∷ []) x a b n fits ex ea eb = cc (value_two u e g)

@@ -1,8 +1,7 @@
 -- What the kinds of tables mean, and the answers of the calls that make them.
 use Rattle.std.specs.Prelude.{ℕ, suc, ◌+◌, ◌-◌, ◌*◌, ◌/◌, ◌%◌, ◌^◌, ◌≤◌, Bool, cond, List, [], ◌∷◌, length, Ok, Err, Result, ◌==◌, nat_le, nat_lt, slice_index}
 use Rattle.std.specs.Borrow.{Bor}
-use Rattle.std.proofs.Common.{leb→le}
-use Rattle.std.proofs.Math.Facts.{eqb_yes}
+use Rattle.std.proofs.Math.Facts.{leb_yes, eqb_yes}
 use Rattle.fields.specs.Fields.{FieldOf, ones}
 use Rattle.fields.specs.declared.refusal.Refusal.{Refusal}
 use Rattle.fields.specs.declared.refusal.Refusal.TheVariants.{OutsideLimits, AddressTooLarge, WrongCount}
@@ -60,7 +59,7 @@ one_hot_counted s i low high addresses =
 abbrev pub one_hot_answer : Sizes → ℕ → Bor (List ℕ) → Result OneHot Refusal
 one_hot_answer s i addresses =
     if_holds (nat_le 1 i)
-    (λ low. if_holds (nat_le i s.d) (λ high. if_all (address_below (cell_count s)) 0 addresses.now (one_hot_counted s i (leb→le 1 i low) (leb→le i s.d high) addresses)) (Err OutsideLimits))
+    (λ low. if_holds (nat_le i s.d) (λ high. if_all (address_below (cell_count s)) 0 addresses.now (one_hot_counted s i (leb_yes low) (leb_yes high) addresses)) (Err OutsideLimits))
     (Err OutsideLimits)
 
 -- the counting table: entry i is i ones added up
@@ -69,4 +68,4 @@ counting_table f m = table_of m.variables m.few (ones f)
 
 -- the answer to a number of variables
 abbrev pub counting_answer : ℕ → Result Counting Refusal
-counting_answer n = if_holds (nat_le n most_variables) (λ h. Ok (record { variables = n; few = leb→le n most_variables h })) (Err OutsideLimits)
+counting_answer n = if_holds (nat_le n most_variables) (λ h. Ok (record { variables = n; few = leb_yes h })) (Err OutsideLimits)

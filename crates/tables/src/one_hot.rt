@@ -93,8 +93,8 @@ impl<'a, F: Field> Listed<F> for OneHot<'a> {
             return Err(Refusal::OutsideTable);
         }
         let cycles = self.sizes.cycles();
-        let address = self.addresses[index % cycles];
-        if self.chunk_of(address) == index / cycles {
+        let (row, cycle) = (index / cycles, index % cycles);
+        if self.chunk_of(self.addresses[cycle]) == row {
             Ok(F::one_element())
         } else {
             Ok(F::zero_element())

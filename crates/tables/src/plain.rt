@@ -8,6 +8,7 @@ use crate::table::{Committed, Listed};
 use fields::field::Field;
 use fields::refusal::Refusal;
 
+// No invariant, and the slice is copied to a local before it is read: that form is laid down.
 #[derive_where(Clone, Copy)]
 #[derive_where(PartialEq, Eq, Debug; F)]
 pub struct PlainList<'a, F> {
@@ -53,11 +54,8 @@ impl<'a, F: Field> Listed<F> for PlainList<'a, F> {
     fn entry(&self, index: usize) -> Result<F, Refusal> {
         let items = self.items;
         if index >= 1 << variables_of(items.len()) {
-            Err(Refusal::OutsideTable)
-        } else if index < items.len() {
-            Ok(items[index])
-        } else {
-            Ok(F::zero_element())
+            return Err(Refusal::OutsideTable);
         }
+        Ok(items.get(index).copied().unwrap_or(F::zero_element()))
     }
 }

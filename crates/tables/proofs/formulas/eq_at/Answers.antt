@@ -14,7 +14,8 @@ returns g c =
     let xs = c.args.x.now in
     let ys = c.args.y.now in
     let step = λ (z : g.row.F.Denot) (ab : g.row.F.Denot × g.row.F.Denot). f.mul (eq_pair f (elements f) ab.0 ab.1) z in
-    let pairs = YieldsList-from_zip (YieldsList-from_rev_slice xs (cc)) (YieldsList-from_rev_slice ys (cc)) in
-    let folded : c.fold.result ≡ fold step c.one_element.result (zip (reverse xs) (reverse ys)) = fold_from_yields_List _ step _ _ c.fold.ensures.ran pairs (λ a x b q k. search rules) in
+    let folded : c.fold.result ≡ fold step c.one_element.result (zip (reverse xs) (reverse ys)) =
+    fold_from_yields_List _ step _ _ c.fold.ensures.ran
+    (YieldsList-from_zip (YieldsList-from_rev_slice xs (cc)) (YieldsList-from_rev_slice ys (cc))) (λ a x b q k. search rules) in
     let from_one = ap (λ z. fold step z (zip (reverse xs) (reverse ys))) c.one_element.ensures in
     rw (eq-eqb (length xs) (length ys) c.if-x-y.false) (ap Ok (folded ∙ from_one ∙ fold_back step (eq f (elements f)) (λ x xs y ys. refl) xs ys [] [] c.if-x-y.false))

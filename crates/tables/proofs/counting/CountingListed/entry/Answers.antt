@@ -1,10 +1,7 @@
-use Rattle.std.proofs.Common.{◌≡◌, ap, ◌∙◌, add-one, arith}
+use Rattle.std.proofs.Common.{◌≡◌, ap, ◌∙◌, arith}
 use Rattle.fields.specs.Fields.{ones}
 use Rattle.tables.proofs.Entries.{gives}
 use Rattle.tables.proofs.counting.CountingListed.entry.Goals as goal
-
-pub loop-preserved : goal.loop-preserved
-loop-preserved g c = rw add-one (cc)
 
 pub returns : goal.returns
 returns g c =

@@ -26,13 +26,6 @@ enter_cycle-requires-clause-lengths g c =
     let below : c.loop-j.j < cycle_count c.args.sizes = omega (arith, c.requires.operations.few) in
     room_left g.F.Field.field c.args.sizes c.args.operations.now c.loop-j.j c.args.self.now c.loop-j.self c.requires.lengths below c.loop-j.invariant
 
-pub enter_cycle-requires-clause-place : goal.enter_cycle-requires-clause-place
-enter_cycle-requires-clause-place g c =
-    let o = c.index-operations-j.result in
-    let cell_below : o.write < cell_count c.args.sizes = omega (arith, ap (λ z. z.write) c.index-operations-j.is, c.requires.operations.writes_below c.loop-j.j o c.loop-j-test.true) in
-    let below : c.loop-j.j < cycle_count c.args.sizes = omega (arith, c.requires.operations.few) in
-    place_left g.F.Field.field c.args.sizes c.args.operations.now c.loop-j.j c.args.self.now c.loop-j.self c.requires.lengths below c.loop-j.invariant o.write cell_below
-
 pub loop-j-preserved : goal.loop-j-preserved
 loop-j-preserved g c =
     let s = c.args.sizes in

@@ -8,7 +8,7 @@ use stages::plan::{Kind, Plan};
 use tables::size::Sizes;
 
 // What a line asks for, its numbers as written.
-#[derive(Clone, Copy)]
+#[derive(Clone, Copy, PartialEq, Eq, Debug)]
 pub struct Job {
     pub kind: Kind,
     pub d: usize,

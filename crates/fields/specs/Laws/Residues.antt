@@ -80,6 +80,10 @@ module _ {C : Type 0} {p : ℕ} (c : Residues C p) (positive : 0 < p) where
   product-sum a b d =
       residue_equal (value a * value (sum b d)) (value (product a b) + value (product a d)) (simp (value-residue, mul-mod_second, mod-add-mod, add-mod-mod, mul-add))
 
+  -- a difference may be reduced once
+  pub residue_difference : (a b : C) → residue (value a + (p - value b)) ≡ sum a (negative b)
+  residue_difference a b = residue_equal (value a + (p - value b)) (value a + value (negative b)) (simp (value-residue, add-mod-mod))
+
   -- a residue whose value is a multiple is zero
   zero_of_multiple : (a : C) → value a % p ≡ 0 → a ≡ residue 0
   zero_of_multiple a h = sym (residue-value a) ∙ residue_equal (value a) 0 (h ∙ sym (zero-mod p))

@@ -1,5 +1,5 @@
 -- The coordinates of a round's point.
-use Rattle.std.proofs.Common.{◌≡◌, ℕ, zero, suc, ◌+◌, ◌-◌, ◌*◌, ◌/◌, ◌%◌, ◌^◌, ◌<◌, ◌≤◌, List, [], ◌∷◌, ◌++◌, length, get_or, take, drop, sym, refl, ap, ◌∙◌, ap₂, mul-le-mul_right, suc-mul, arith, length-append, length-take, get_or-take}
+use Rattle.std.proofs.Common.{◌≡◌, ℕ, zero, suc, ◌+◌, ◌-◌, ◌/◌, ◌%◌, ◌^◌, ◌<◌, ◌≤◌, List, [], ◌∷◌, ◌++◌, length, get_or, take, drop, sym, refl, ap, ◌∙◌, arith, length-append, length-take, get_or-take}
 use native.Mathlib.Nat.{min-eq_left}
 use Rattle.std.proofs.lemmas.List.{get_or_append_left, get_or-append_right, get_or_at, ext_get_or}
 use Rattle.std.proofs.lemmas.Slice.{between_to_end}
@@ -51,24 +51,11 @@ module _ {F : Type 0} (f : FieldOf F) where
         ext_get_or f.zero (take n ys) point (l ∙ e ∙ sym length-point)
         (λ j below. get_or-take n ys j f.zero (omega arith) ∙ same j (omega arith))
 
--- the parts of a point that the code takes are those that the formulas speak of
+-- the last coordinates of a point, as the code takes them
 module _ {F : Type 0} (point : List F) where
-  pub front_part : (n : ℕ) → take (n - 0) point ≡ take n point
-  front_part n = let e : n - 0 ≡ n = omega arith in ap (λ m. take m point) e
-
   pub back_part : (n : ℕ) → n ≤ length point → take (length point - n) (drop n point) ≡ drop n point
   back_part n h = between_to_end point n (length point) (omega arith)
 
   -- by another term for where the parts meet
-  pub front_part_to : (n m : ℕ) → n ≡ m → take (n - 0) point ≡ take m point
-  front_part_to n m e = front_part n ∙ ap (λ i. take i point) e
-
   pub back_part_from : (n m : ℕ) → n ≡ m → n ≤ length point → take (length point - n) (drop n point) ≡ drop m point
   back_part_from n m e h = back_part n h ∙ ap (λ i. drop i point) e
-
-  pub middle_part : (n from size : ℕ) → take (from + size - from) (drop from (take (n - 0) point)) ≡ take size (drop from (take n point))
-  middle_part n from size = let e : from + size - from ≡ size = omega arith in ap₂ (λ m a. take m (drop from a)) e (front_part n)
-
--- chunk i of d chunks of c bits ends within the address
-pub chunk-within : (i d c : ℕ) → i < d → i * c + c ≤ d * c
-chunk-within i d c h = let m : suc i * c ≤ d * c = mul-le-mul_right c h in omega (arith, suc-mul i c)

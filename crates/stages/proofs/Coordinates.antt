@@ -1,7 +1,7 @@
 -- The coordinates of a round's point.
-use Rattle.std.proofs.Common.{◌≡◌, ℕ, zero, suc, ◌+◌, ◌-◌, ◌/◌, ◌%◌, ◌^◌, ◌<◌, ◌≤◌, List, [], ◌∷◌, ◌++◌, length, get_or, take, drop, sym, refl, ap, ◌∙◌, arith, length-append, length-take, get_or-take}
+use Rattle.std.proofs.Common.{◌≡◌, ℕ, zero, suc, ◌+◌, ◌-◌, ◌/◌, ◌%◌, ◌^◌, ◌<◌, ◌≤◌, List, ◌∷◌, ◌++◌, length, get_or, take, drop, sym, refl, ap, ◌∙◌, arith, length-append, length-take, get_or-take}
 use native.Mathlib.Nat.{min-eq_left}
-use Rattle.std.proofs.lemmas.List.{get_or_append_left, get_or-append_right, get_or_at, ext_get_or}
+use Rattle.std.proofs.lemmas.List.{get_or-append_right, ext_get_or}
 use Rattle.std.proofs.lemmas.Slice.{between_to_end}
 use Rattle.fields.specs.Fields.{FieldOf}
 use Rattle.tables.specs.Sums.{bit, corner}
@@ -19,17 +19,6 @@ module _ {F : Type 0} (f : FieldOf F) where
   module _ (r : List F) (x : F) (left index : ℕ) where
     abbrev point : List F
     point = r ++ (x ∷ corner f left index)
-
-    pub coordinate_before : (i : ℕ) (v : F) → i < length r → v ≡ get_or r i v → v ≡ get_or point i f.zero
-    coordinate_before i v h is = is ∙ same_default r i v f.zero h ∙ sym (get_or_append_left r (x ∷ corner f left index) f.zero i h)
-      where
-        same_default : (xs : List F) (i : ℕ) (d e : F) → i < length xs → get_or xs i d ≡ get_or xs i e
-        same_default [] i d e h = absurd (omega arith)
-        same_default (y ∷ xs) zero d e h = refl
-        same_default (y ∷ xs) (suc i) d e h = same_default xs i d e (omega arith)
-
-    pub coordinate_own : (i : ℕ) → i ≡ length r → x ≡ get_or point i f.zero
-    coordinate_own i e = sym (get_or_at r x (corner f left index) f.zero i (sym e))
 
     pub coordinate_after : (i : ℕ) → length r < i → i < length r + 1 + left → bit f (index / 2 ^ (left - (i - length r)) % 2) ≡ get_or point i f.zero
     coordinate_after i low high =

@@ -1,7 +1,7 @@
 -- The coordinates of a round's point.
-use Rattle.std.proofs.Common.{◌≡◌, ℕ, zero, suc, ◌+◌, ◌-◌, ◌*◌, ◌/◌, ◌%◌, ◌^◌, ◌<◌, ◌≤◌, List, [], ◌∷◌, ◌++◌, length, get_or, take, drop, sym, refl, ap, ◌∙◌, ap₂, mul-le-mul_right, suc-mul, arith, length-append, length-take, get_or-take}
+use Rattle.std.proofs.Common.{◌≡◌, ℕ, zero, suc, ◌+◌, ◌-◌, ◌/◌, ◌%◌, ◌^◌, ◌<◌, ◌≤◌, List, ◌∷◌, ◌++◌, length, get_or, take, drop, sym, refl, ap, ◌∙◌, arith, length-append, length-take, get_or-take}
 use native.Mathlib.Nat.{min-eq_left}
-use Rattle.std.proofs.lemmas.List.{get_or_append_left, get_or-append_right, get_or_at, ext_get_or}
+use Rattle.std.proofs.lemmas.List.{get_or-append_right, ext_get_or}
 use Rattle.std.proofs.lemmas.Slice.{between_to_end}
 use Rattle.fields.specs.Fields.{FieldOf}
 use Rattle.tables.specs.Sums.{bit, corner}
@@ -19,17 +19,6 @@ module _ {F : Type 0} (f : FieldOf F) where
   module _ (r : List F) (x : F) (left index : ℕ) where
     abbrev point : List F
     point = r ++ (x ∷ corner f left index)
-
-    pub coordinate_before : (i : ℕ) (v : F) → i < length r → v ≡ get_or r i v → v ≡ get_or point i f.zero
-    coordinate_before i v h is = is ∙ same_default r i v f.zero h ∙ sym (get_or_append_left r (x ∷ corner f left index) f.zero i h)
-      where
-        same_default : (xs : List F) (i : ℕ) (d e : F) → i < length xs → get_or xs i d ≡ get_or xs i e
-        same_default [] i d e h = absurd (omega arith)
-        same_default (y ∷ xs) zero d e h = refl
-        same_default (y ∷ xs) (suc i) d e h = same_default xs i d e (omega arith)
-
-    pub coordinate_own : (i : ℕ) → i ≡ length r → x ≡ get_or point i f.zero
-    coordinate_own i e = sym (get_or_at r x (corner f left index) f.zero i (sym e))
 
     pub coordinate_after : (i : ℕ) → length r < i → i < length r + 1 + left → bit f (index / 2 ^ (left - (i - length r)) % 2) ≡ get_or point i f.zero
     coordinate_after i low high =
@@ -51,24 +40,11 @@ module _ {F : Type 0} (f : FieldOf F) where
         ext_get_or f.zero (take n ys) point (l ∙ e ∙ sym length-point)
         (λ j below. get_or-take n ys j f.zero (omega arith) ∙ same j (omega arith))
 
--- the parts of a point that the code takes are those that the formulas speak of
+-- the last coordinates of a point, as the code takes them
 module _ {F : Type 0} (point : List F) where
-  pub front_part : (n : ℕ) → take (n - 0) point ≡ take n point
-  front_part n = let e : n - 0 ≡ n = omega arith in ap (λ m. take m point) e
-
   pub back_part : (n : ℕ) → n ≤ length point → take (length point - n) (drop n point) ≡ drop n point
   back_part n h = between_to_end point n (length point) (omega arith)
 
   -- by another term for where the parts meet
-  pub front_part_to : (n m : ℕ) → n ≡ m → take (n - 0) point ≡ take m point
-  front_part_to n m e = front_part n ∙ ap (λ i. take i point) e
-
   pub back_part_from : (n m : ℕ) → n ≡ m → n ≤ length point → take (length point - n) (drop n point) ≡ drop m point
   back_part_from n m e h = back_part n h ∙ ap (λ i. drop i point) e
-
-  pub middle_part : (n from size : ℕ) → take (from + size - from) (drop from (take (n - 0) point)) ≡ take size (drop from (take n point))
-  middle_part n from size = let e : from + size - from ≡ size = omega arith in ap₂ (λ m a. take m (drop from a)) e (front_part n)
-
--- chunk i of d chunks of c bits ends within the address
-pub chunk-within : (i d c : ℕ) → i < d → i * c + c ≤ d * c
-chunk-within i d c h = let m : suc i * c ≤ d * c = mul-le-mul_right c h in omega (arith, suc-mul i c)

@@ -2,7 +2,7 @@
 use Rattle.std.proofs.Common.{◌≡◌, ◌↔◌, ℕ, zero, suc, ◌+◌, ◌<◌, Bool, true, false, ◌&&◌, eqb, List, [], ◌∷◌, map, length, get_or, sym, refl, ap, ◌∙◌, arith}
 use lib.ListN.{length-map}
 use Rattle.std.specs.List.{All}
-use Rattle.std.proofs.lemmas.Bool.{eq-eqb, ne_eqb, eqb-true, and_left, and_from, and_parts}
+use Rattle.std.proofs.lemmas.Bool.{eq-eqb, eqb-true, and_from, and_parts}
 use Rattle.tables.specs.Tables.{Table}
 use Rattle.tables.specs.declared.size.Sizes.{Sizes}
 use Rattle.stages.specs.Memory.{chunk_at}
@@ -28,10 +28,6 @@ module _ {F A : Type 0} (e : A → Table F) (xs : List A) where
 
   pub fits_each : (n : ℕ) (b : Bool) → (b ≡ true ↔ All (λ x. (e x).variables ≡ n) xs) → b ≡ all_have n (map e xs)
   fits_each n b is = same_tests b (all_have n (map e xs)) (λ h. each_have n xs (is.0 h)) (λ h. is.1 (have_each n xs h))
-
-  pub wrong_count : (s : Sizes) → (length xs ≡ s.d → ⊥) → chunks_fit s (map e xs) ≡ false
-  wrong_count s q =
-      and_left (eqb (length (map e xs)) s.d) (all_have (s.c + s.t) (map e xs)) (ne_eqb (length (map e xs)) s.d (λ r. q (sym (length-map xs e) ∙ r)))
 
   pub right_count : (s : Sizes) → length xs ≡ s.d → chunks_fit s (map e xs) ≡ all_have (s.c + s.t) (map e xs)
   right_count s q = ap (λ b. b && all_have (s.c + s.t) (map e xs)) (eq-eqb (length (map e xs)) s.d (length-map xs e ∙ q))

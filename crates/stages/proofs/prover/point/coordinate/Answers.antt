@@ -1,14 +1,7 @@
 use Rattle.std.proofs.Common.{◌/◌, ◌%◌, ◌^◌, ap, ◌∙◌, arith}
 use Rattle.tables.specs.Sums.{bit}
-use Rattle.stages.proofs.Coordinates.{coordinate_before, coordinate_own, coordinate_after}
+use Rattle.stages.proofs.Coordinates.{coordinate_after}
 use Rattle.stages.proofs.prover.point.coordinate.Goals as goal
-
-pub returns-then-i-r : goal.returns-then-i-r
-returns-then-i-r g c =
-    λ within. coordinate_before g.F.Field.field c.args.r.now c.args.x c.args.left c.args.index c.args.i c.index-r-i.result c.if-i-r.true c.index-r-i.is
-
-pub returns-then-i-r-2 : goal.returns-then-i-r-2
-returns-then-i-r-2 g c = λ within. coordinate_own g.F.Field.field c.args.r.now c.args.x c.args.left c.args.index c.args.i c.if-i-r-2.true
 
 pub returns-else-i-r-2 : goal.returns-else-i-r-2
 returns-else-i-r-2 g c =

@@ -13,7 +13,7 @@ abbrev pub f31 : ℕ → F31
 f31 n = f31_field.element n
 
 -- the element of F257 that means n
-abbrev f257 : ℕ → F257
+abbrev pub f257 : ℕ → F257
 f257 n = f257_field.element n
 
 -- the pair (a, b) of P31

@@ -5,7 +5,6 @@
 mod tests {
     use fields::f31::F31;
     use fields::field::Field;
-    use fields::refusal::Refusal;
     use stages::increments::value_at;
     use stages::memory::{Tables, tables_fit};
     use stages::plan::{Kind, Plan};
@@ -251,12 +250,12 @@ mod tests {
             54
         );
         assert_eq!(rt;
-            value_at(sizes, &inc, &point[0..2], &point[3..4]),
-            Err(Refusal::OutsideTable)
+            value_at(sizes, &inc, &point[0..2], &point[3..4]).map_err(u8::from),
+            Err(7)
         );
         assert_eq!(rt;
-            value_at(Sizes::new(1, 1, 0)?, &inc, &point[1..2], &point[0..0]),
-            Err(Refusal::TablesDoNotFit)
+            value_at(Sizes::new(1, 1, 0)?, &inc, &point[1..2], &point[0..0]).map_err(u8::from),
+            Err(4)
         );
         Ok(())
     }

@@ -1,15 +1,11 @@
 -- Worked examples of the fields, the tables and the messages of a job, as one theorem.
-use Rattle.std.specs.Prelude.{◌≡◌, ℕ, List, [], ◌∷◌, map, Some, None, Option}
+use Rattle.std.specs.Prelude.{◌≡◌, ℕ, List, [], ◌∷◌, Some, None, Option}
 use Rattle.fields.specs.F31.{F31, f31_field}
-use Rattle.tables.specs.Examples.{TableExamples}
+use Rattle.tables.specs.Examples.{TableExamples, f31s}
 use Rattle.stages.specs.declared.plan.Kind.TheVariants.{Shout}
 use Rattle.stages.specs.declared.plan.Plan.{Plan}
 use Rattle.stages.specs.Memory.{Memory}
 use Rattle.stages.specs.Due.{due_message}
-
--- elements of F31 by the numbers that they mean
-abbrev f31s : List ℕ → List F31
-f31s ns = map f31_field.element ns
 
 -- Shout with d = c = 1 and t = 0: one cycle reads cell 1 of the table 5, 7
 abbrev shout : Plan

@@ -155,7 +155,7 @@ impl Plan {
         ensures place { result ≡ place self count }
         ensures past { challenge_count self ≤ count → result ≡ (0, 0) }
     {
-        // The pair with zeros for no place, and the labelled loop that is left with it, are laid down.
+        // A walk over stages and rounds, left with the place: a pair, with zeros past the last stage, as the protocol says.
         let mut left = count;
         let mut number = 1;
         'walk: loop {

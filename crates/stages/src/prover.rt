@@ -235,6 +235,7 @@ impl<'a, F: Field, A: Committed<F>, M: Listed<F>, V: Committed<F>> Prover<'a, F,
         match (which, self.tables) {
             (ChunkTable::Ra(number), _) => numbered(sizes, self.ra(), number),
             (ChunkTable::Wa(number), Tables::Twist { wa, .. }) => numbered(sizes, *wa, number),
+            // A plan of Shout has no such table.
             (ChunkTable::Wa(_), Tables::Shout { .. }) => unreachable(),
         }
     }
@@ -253,6 +254,7 @@ impl<'a, F: Field, A: Committed<F>, M: Listed<F>, V: Committed<F>> Prover<'a, F,
             (Stage::Read, _) => self.read_term(self.ra(), draws, ends),
             (Stage::Write, Tables::Twist { wa, wv, .. }) => self.write_term(*wa, *wv, draws, ends),
             (Stage::Value, Tables::Twist { inc, .. }) => self.value_term(*inc, before, ends),
+            // A plan of Shout has no such stage.
             (Stage::Write | Stage::Value, Tables::Shout { .. }) => unreachable(),
         }
     }

@@ -3,7 +3,7 @@ use Rattle.std.specs.Prelude.{◌≡◌, ℕ, ◌*◌, List, [], ◌∷◌, map,
 use Rattle.fields.specs.Fields.{elements}
 use Rattle.fields.specs.F31.{F31, f31_field}
 use Rattle.fields.specs.F257.{F257, f257_field}
-use Rattle.fields.specs.Examples.{FieldExamples}
+use Rattle.fields.specs.Examples.{FieldExamples, f31, f257}
 use Rattle.fields.specs.declared.refusal.Refusal.{Refusal}
 use Rattle.tables.specs.Sizes.{cell_count, cycle_count}
 use Rattle.tables.specs.Formulas.{eq, lt, extension}
@@ -13,14 +13,11 @@ use Rattle.tables.specs.declared.size.Sizes.{Sizes}
 use Rattle.tables.specs.declared.maker.Operation.{Operation}
 
 -- elements of F31 and F257 by the numbers that they mean
-abbrev f31 : ℕ → F31
-f31 n = f31_field.element n
-
-abbrev f31s : List ℕ → List F31
+abbrev pub f31s : List ℕ → List F31
 f31s ns = map f31 ns
 
 abbrev f257s : List ℕ → List F257
-f257s ns = map f257_field.element ns
+f257s ns = map f257 ns
 
 -- the answer of the extension of a list at a point
 abbrev extended : List F31 → List F31 → Result F31 Refusal

@@ -104,7 +104,7 @@ impl<'a, F: Field> RunLists<'a, F> {
         let cycles = sizes.cycles();
         let places = sizes.cells() * cycles;
         clear(self.inc, places);
-        // A `for` over the slice with its index: that form is laid down.
+        // The operations in their order, each with the number of its cycle.
         for (j, operation) in operations.iter().enumerate() {
             self.enter_cycle(sizes, j, *operation);
         }

@@ -8,7 +8,7 @@ use crate::table::{Committed, Listed};
 use fields::field::Field;
 use fields::refusal::Refusal;
 
-// No invariant, and the slice is copied to a local before it is read: that form is laid down.
+// No invariant: what it means is defined for any contents. The slice is copied to a local before it is read.
 #[derive_where(Clone, Copy)]
 #[derive_where(PartialEq, Eq, Debug; F)]
 pub struct PlainList<'a, F> {

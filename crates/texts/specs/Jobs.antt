@@ -37,15 +37,15 @@ pub record Begins (input : List ℕ) (j : Job) : Type 0 where
   pub rest : List ℕ
   pub whole : input ≡ job_line j ++ rest
 
--- what is read of an input: the job whose line it begins with, or a refusal if it begins with that of no job
-abbrev pub Reads : List ℕ → Result Job Refusal → Type 0
-Reads input (Ok j) = Begins input j
-Reads input (Err e) = (e ≡ MalformedLine) × ((j : Job) → Begins input j → ⊥)
+-- the job whose line an input begins with, or none if it begins with that of no job
+abbrev pub JobFirst : List ℕ → Option Job → Type 0
+JobFirst input (Some j) = Begins input j
+JobFirst input None = (j : Job) → Begins input j → ⊥
 
--- what is read of an input: the job whose line it begins with, or none if it begins with that of no job
-abbrev pub JobRead : List ℕ → Option Job → Type 0
-JobRead input (Some j) = Begins input j
-JobRead input None = (j : Job) → Begins input j → ⊥
+-- what is read of an input: that job, or a refusal if there is none
+abbrev pub Reads : List ℕ → Result Job Refusal → Type 0
+Reads input (Ok j) = JobFirst input (Some j)
+Reads input (Err e) = (e ≡ MalformedLine) × JobFirst input None
 
 -- the plan of a kind for sizes that are taken, or their refusal
 abbrev pub sized_plan : Kind → Result Sizes Refusal → Result Plan Refusal
@@ -53,8 +53,8 @@ sized_plan kind (Ok s) = Ok (record { kind = kind; sizes = s })
 sized_plan kind (Err e) = Err e
 
 -- the plan that a job asks for
-abbrev pub plan_of : Job → Result Plan Refusal
-plan_of j = sized_plan j.kind (sizes_for j.d j.c j.t)
+abbrev pub job_plan : Job → Result Plan Refusal
+job_plan j = sized_plan j.kind (sizes_for j.d j.c j.t)
 
 -- a kind's name and a tab at the front of bytes, and the bytes after them
 abbrev pub KindFirst : List ℕ → Option (Kind × Bor (List ℕ)) → Type 0

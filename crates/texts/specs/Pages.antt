@@ -9,7 +9,7 @@ use Rattle.stages.specs.declared.plan.Plan.{Plan}
 use Rattle.stages.specs.Plan.{stages, draws, bounds}
 use Rattle.stages.specs.Names.{stage_name, chunk_name}
 use Rattle.texts.specs.declared.job.Job.{Job}
-use Rattle.texts.specs.Jobs.{tab, line_end, Reads, plan_of}
+use Rattle.texts.specs.Jobs.{tab, line_end, Reads, job_plan}
 
 abbrev pub comma : ℕ
 comma = 44
@@ -52,7 +52,7 @@ plan_or_refusal (Ok p) = plan_text p
 plan_or_refusal (Err e) = refusal_text e
 
 abbrev pub job_text : Result Job Refusal → List ℕ
-job_text (Ok j) = plan_or_refusal (plan_of j)
+job_text (Ok j) = plan_or_refusal (job_plan j)
 job_text (Err e) = refusal_text e
 
 -- the text answers what is read of the input

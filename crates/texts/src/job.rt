@@ -1,7 +1,7 @@
 // Reading the line that asks for the plan of a job.
 ghost use Rattle.std.specs.Prelude.{◌≡◌, ◌<◌, ◌==◌};
 ghost use Rattle.std.specs.List.{position};
-ghost use Rattle.texts.specs.Jobs.{plan_of, Reads, JobRead, KindFirst, NumberFirst, NumberRead};
+ghost use Rattle.texts.specs.Jobs.{job_plan, Reads, JobFirst, KindFirst, NumberFirst, NumberRead};
 
 use fields::refusal::Refusal;
 use stages::plan::{Kind, Plan};
@@ -61,7 +61,7 @@ fn kind(bytes: &[u8]) -> Option<(Kind, &[u8])>
 }
 
 fn first_job(input: &[u8]) -> Option<Job>
-    ensures { JobRead input.now result }
+    ensures { JobFirst input.now result }
 {
     let (kind, rest) = kind(input)?;
     let (d, rest) = number(rest, b'\t')?;
@@ -81,7 +81,7 @@ pub fn read_job(input: &[u8]) -> Result<Job, Refusal>
 impl TryFrom<Job> for Plan {
     type Error = Refusal;
 
-    ghost try_from_gives = { λ job plan. plan ≡ plan_of job };
+    ghost try_from_gives = { λ job plan. plan ≡ job_plan job };
 
     fn try_from(job: Job) -> Result<Plan, Refusal> {
         Ok(Plan {

@@ -129,6 +129,7 @@ impl<'a, F: Field, A: Committed<F>, M: Listed<F>, V: Committed<F>> Prover<'a, F,
         opened_at(table, &address[from..from + c], cycle)
     }
 
+    // The line of a chunk table at its chunk of the address and at the cycle.
     fn chunk_line(&self, table: &A, i: usize, ends: &Ends<F>) -> Line<F>
         requires within { i < self.now.plan.sizes.d }
         requires table { (A.Committed.table table.now).variables ≡ self.now.plan.sizes.c + self.now.plan.sizes.t }

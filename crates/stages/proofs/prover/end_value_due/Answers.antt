@@ -1,21 +1,10 @@
-use Rattle.std.proofs.Common.{IsSome, subst, refl, ◌≡◌, suc, ◌+◌, false, ◌&&◌, eqb, length, sym, ap, ◌∙◌, ⊎_elim, add-one, arith}
-use Rattle.std.proofs.lemmas.Option.{slice_get-get_or}
+use Rattle.std.proofs.Common.{◌≡◌, suc, ◌+◌, false, ◌&&◌, eqb, length, sym, ap, ◌∙◌, ⊎_elim, add-one, arith}
 use Rattle.std.proofs.lemmas.Bool.{eq-eqb, ne_eqb, and_from, and_left, and_right, or_from}
-use Rattle.stages.specs.declared.plan.Stage.TheVariants.{Read}
-use Rattle.stages.specs.Plan.{stages, stage_at, challenges_before}
+use Rattle.stages.specs.Plan.{stages, challenges_before}
 use Rattle.stages.specs.Due.{asks, asks_at, some_below}
 use Rattle.stages.proofs.Stages.{few_stages}
 use Rattle.stages.proofs.EndValues.{asks_of, few_challenges, some_found, stage_of_turn, end_of_turn}
 use Rattle.stages.proofs.prover.end_value_due.Goals as goal
-
-pub unwrap-stage-requires : goal.unwrap-stage-requires
-unwrap-stage-requires c =
-    let p = c.args.plan in
-    let i = c.loop-index.index in
-    subst IsSome (sym (c.stage_at.ensures ∙ ap (stage_at p) (add-one i) ∙ slice_get-get_or (stages p) i Read (omega (arith, c.stage_count-index-end.ensures)))) refl
-
-pub overflow_add-end : goal.overflow_add-end
-overflow_add-end c = omega (arith, few_challenges c.args.plan c.unwrap-stage.result, c.draws.ensures, c.rounds.ensures)
 
 pub overflow_add-end-in-loop-index : goal.overflow_add-end-in-loop-index
 overflow_add-end-in-loop-index c =

@@ -1,5 +1,5 @@
-use Rattle.std.proofs.Common.{◌≡◌, ◌+◌, ◌-◌, ◌≤◌, length, take, drop, ap, ◌∙◌, arith, length-drop}
-use lib.Seq.{slice, length-slice}
+use Rattle.std.proofs.Common.{◌≡◌, ◌+◌, ◌-◌, length, take, drop, ap, ◌∙◌, arith, length-drop}
+use lib.Seq.{slice}
 use Rattle.std.proofs.lemmas.Slice.{between_is}
 use Rattle.rounds.specs.Accumulators.{coefficients}
 use Rattle.stages.specs.Models.{memory}
@@ -8,24 +8,6 @@ use Rattle.stages.specs.Due.{point_size}
 use Rattle.stages.proofs.Coordinates.{back_part}
 use Rattle.stages.proofs.Due.{message_from-kept}
 use Rattle.stages.proofs.prover.Prover.round_polynomial.Goals as goal
-
-pub sum-requires : goal.sum-requires
-sum-requires g c =
-    let xs = c.args.self.now.challenges.now in
-    let start = c.args.start in
-    let own = c.args.start + c.draws.result in
-    let from = c.saturating_sub-from.result in
-    let within : c.args.start + c.draws.result ≤ length c.args.self.now.challenges.now = omega (arith, c.requires.drawn, c.draws.ensures) in
-    let done = ap length (back_part xs own within) ∙ length-drop own xs in
-    record {
-      planned = c.requires.planned;
-      draws_are = ap length (between_is xs start own) ∙ length-slice start own xs within ∙ omega (arith, c.draws.ensures);
-      point_is =
-          λ value.
-          ap length (between_is xs from start) ∙ length-slice from start xs (omega arith)
-          ∙ omega (arith, c.requires.before value, c.saturating_sub-from.ensures, c.point_size.ensures);
-      variables = omega (arith, c.requires.left, c.draws.ensures, c.rounds.ensures);
-    }
 
 pub returns : goal.returns
 returns g c =

@@ -4,9 +4,6 @@ use Rattle.stages.proofs.Kept.{kept-plus}
 use Rattle.stages.proofs.Stages.{rounds-within}
 use Rattle.stages.proofs.prover.Round.sum.Goals as goal
 
-pub overflow_shl-index-end : goal.overflow_shl-index-end
-overflow_shl-index-end g c = omega (arith, c.requires.variables, rounds-within c.args.self.now.prover.now.plan c.args.self.now.stage)
-
 pub loop-index-preserved : goal.loop-index-preserved
 loop-index-preserved g c = rw add-one (c.plus-sum.ensures ∙ kept-plus g.F.Field.field _ _ _ _ c.loop-index.invariant c.corner_term.ensures)
 

@@ -1,6 +1,7 @@
 // The formulas of the protocol, over slices of elements of any field.
-ghost use Rattle.std.specs.Prelude.{◌≡◌, ◌%◌, ◌^◌, ◌<◌, ◌≤◌, ◌++◌, length, ◌==◌};
+ghost use Rattle.std.specs.Prelude.{◌≡◌, ◌%◌, ◌^◌, ◌<◌, ◌≤◌, ◌++◌, cond, length, Ok, Err, ◌==◌, nat_lt};
 ghost use Rattle.fields.specs.Fields.{elements};
+ghost use Rattle.fields.specs.declared.refusal.Refusal.TheVariants.{OutsideTable};
 ghost use Rattle.tables.specs.Limits.{most_variables};
 ghost use Rattle.tables.specs.Formulas.{eq, eq_pair, lt, between, extension};
 ghost use Rattle.tables.specs.Sums.{bit, corner, extension_sum};
@@ -64,11 +65,27 @@ pub(crate) fn variables_of(count: usize) -> usize
     MOST_VARIABLES.min(count.ilog2() as usize)
 }
 
-// Whether a point in two parts has `n` elements.
-pub(crate) fn fits<F: Field>(head: &[F], tail: &[F], n: usize) -> bool
-    ensures { result ≡ (length (head.now ++ tail.now) == n) }
+// Refuses a point in two parts that has not `n` elements.
+pub(crate) fn check_fits<F: Field>(head: &[F], tail: &[F], n: usize) -> Result<(), Refusal>
+    ensures { result ≡ cond (length (head.now ++ tail.now) == n) (Ok tt) (Err OutsideTable) }
 {
-    head.len().checked_add(tail.len()) == Some(n)
+    if head.len().checked_add(tail.len()) == Some(n) {
+        Ok(())
+    } else {
+        Err(Refusal::OutsideTable)
+    }
+}
+
+// Refuses an index that is not below 2^n.
+pub(crate) fn check_index(index: usize, n: usize) -> Result<(), Refusal>
+    requires { n ≤ most_variables }
+    ensures { result ≡ cond (nat_lt index (2 ^ n)) (Ok tt) (Err OutsideTable) }
+{
+    if index < 1 << n {
+        Ok(())
+    } else {
+        Err(Refusal::OutsideTable)
+    }
 }
 
 // The extension at one point of a list that fits it, by halves; the last two variables are written out.
@@ -141,9 +158,7 @@ pub fn extension_joined<F: Field>(items: &[F], head: &[F], tail: &[F]) -> Result
     if items.len() != 1 << n {
         return Err(Refusal::OutsideLimits);
     }
-    if !fits(head, tail, n) {
-        return Err(Refusal::OutsideTable);
-    }
+    check_fits(head, tail, n)?;
     Ok(extend_joined(items, head, tail))
 }
 

@@ -5,7 +5,7 @@ ghost use Rattle.fields.specs.declared.refusal.Refusal.TheVariants.{OutsideTable
 ghost use Rattle.tables.specs.Limits.{most_variables};
 ghost use Rattle.tables.specs.Formulas.{eq, eq_pair, lt, between, extension};
 ghost use Rattle.tables.specs.Sums.{bit, corner, extension_sum};
-ghost use Rattle.tables.specs.Tables.{entry, on_points, on_table, variables_in};
+ghost use Rattle.tables.specs.Tables.{entry, folded_pairs, on_points, on_table, variables_in};
 
 use crate::size::MOST_VARIABLES;
 use fields::field::Field;
@@ -19,31 +19,40 @@ fn eq_of<F: Field>(x: F, y: F) -> F
     x.times(y).plus(one.minus(x).times(one.minus(y)))
 }
 
-// eq of two points.
-pub fn eq_at<F: Field>(x: &[F], y: &[F]) -> Result<F, Refusal>
-    ensures { result ≡ on_points F.Field.field x.now y.now (eq F.Field.field (elements F.Field.field) x.now y.now) }
+// A fold over the pairs of two points of one length, from the last pair to the first.
+fn fold_pairs<F: Field, G: Fn(F, F, F) -> F>(
+    x: &[F],
+    y: &[F],
+    start: F,
+    step: G,
+) -> Result<F, Refusal>
+    requires { G.IsAlwaysCallable step }
+    ensures { (h : F → F → F → F) → ((z a b r : F) → G.post step z a b r → r ≡ h z a b) → result ≡ on_points F.Field.field x.now y.now (folded_pairs h start x.now y.now) }
 {
     if x.len() != y.len() {
         return Err(Refusal::OutsideTable);
     }
     let pairs = x.iter().rev().zip(y.iter().rev());
-    Ok(pairs.fold(F::one_element(), |product, (a, b)| {
-        eq_of(*a, *b).times(product)
-    }))
+    Ok(pairs.fold(start, |so_far, (a, b)| step(so_far, *a, *b)))
+}
+
+// eq of two points.
+pub fn eq_at<F: Field>(x: &[F], y: &[F]) -> Result<F, Refusal>
+    ensures { result ≡ on_points F.Field.field x.now y.now (eq F.Field.field (elements F.Field.field) x.now y.now) }
+{
+    fold_pairs(x, y, F::one_element(), |product, a, b| {
+        eq_of(a, b).times(product)
+    })
 }
 
 // LT of two points.
 pub fn lt_at<F: Field>(x: &[F], y: &[F]) -> Result<F, Refusal>
     ensures { result ≡ on_points F.Field.field x.now y.now (lt F.Field.field (elements F.Field.field) x.now y.now) }
 {
-    if x.len() != y.len() {
-        return Err(Refusal::OutsideTable);
-    }
     let one = F::one_element();
-    let pairs = x.iter().rev().zip(y.iter().rev());
-    Ok(pairs.fold(F::zero_element(), |less, (a, b)| {
-        one.minus(*a).times(*b).plus(eq_of(*a, *b).times(less))
-    }))
+    fold_pairs(x, y, F::zero_element(), |less, a, b| {
+        one.minus(a).times(b).plus(eq_of(a, b).times(less))
+    })
 }
 
 // The value at `x` of the line that is `low` at zero and `high` at one.

@@ -1,22 +1,17 @@
-use Rattle.std.proofs.Common.{◌≡◌, ◌/◌, ◌%◌, ap, ◌∙◌, ltb, ◌^◌, ℕ, sym, eq-eqb, ne_eqb}
+use Rattle.std.proofs.Common.{◌≡◌, ◌/◌, ◌%◌, sym, eq-eqb, ne_eqb}
 use Rattle.tables.specs.Sizes.{cycle_count}
 use Rattle.tables.specs.Kinds.{chunk_of}
-use Rattle.tables.proofs.Made.{passed}
 use Rattle.tables.proofs.OneHots.{gives_of_row}
 use Rattle.tables.proofs.one_hot.OneHotListed.entry.Goals as goal
 
 pub returns-then-chunk_of-row : goal.returns-then-chunk_of-row
 returns-then-chunk_of-row g c =
     let m = c.args.self.now in
-    let x = c.args.index in
-    let below = passed _ c.in_ok-check_index.ensures ∙ ap (λ (n : ℕ). ltb x (2 ^ n)) c.chunk_variables.ensures.value in
-    let here : chunk_of m.sizes m.chunk m.addresses.now (x % cycle_count m.sizes) ≡ x / cycle_count m.sizes = cc in
-    gives_of_row g.F.Field.field m x _ _ below (sym (eq-eqb _ _ here)) c.one_element.ensures
+    let here : chunk_of m.sizes m.chunk m.addresses.now (c.args.index % cycle_count m.sizes) ≡ c.args.index / cycle_count m.sizes = cc in
+    gives_of_row g.F.Field.field m c.args.index _ _ _ c.chunk_variables.ensures.value c.in_ok-check_index.ensures (sym (eq-eqb _ _ here)) c.one_element.ensures
 
 pub returns-else-chunk_of-row : goal.returns-else-chunk_of-row
 returns-else-chunk_of-row g c =
     let m = c.args.self.now in
-    let x = c.args.index in
-    let below = passed _ c.in_ok-check_index.ensures ∙ ap (λ (n : ℕ). ltb x (2 ^ n)) c.chunk_variables.ensures.value in
-    let apart : chunk_of m.sizes m.chunk m.addresses.now (x % cycle_count m.sizes) ≡ x / cycle_count m.sizes → ⊥ = λ e. c.if-chunk_of-row.false (cc) in
-    gives_of_row g.F.Field.field m x _ _ below (sym (ne_eqb _ _ apart)) c.zero_element.ensures
+    let apart : chunk_of m.sizes m.chunk m.addresses.now (c.args.index % cycle_count m.sizes) ≡ c.args.index / cycle_count m.sizes → ⊥ = λ e. c.if-chunk_of-row.false (cc) in
+    gives_of_row g.F.Field.field m c.args.index _ _ _ c.chunk_variables.ensures.value c.in_ok-check_index.ensures (sym (ne_eqb _ _ apart)) c.zero_element.ensures

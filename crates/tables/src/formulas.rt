@@ -135,6 +135,7 @@ fn extend_joined<F: Field>(items: &[F], head: &[F], tail: &[F]) -> F
 }
 
 // eq of the last bit of a number and an element.
+// A choice: eq of the bit as an element would cost two multiplications.
 fn bit_weight<F: Field>(number: usize, x: F) -> F
     ensures { result ≡ eq_pair F.Field.field (elements F.Field.field) (bit F.Field.field (number % 2)) x }
 {

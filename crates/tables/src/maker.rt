@@ -37,6 +37,7 @@ fn clear<F: Field>(list: &mut [F], count: usize)
 }
 
 // The lists that a run is written to: the addresses read and written, RV, WV and INC.
+// Five lists and not one of cycles: who reads a run takes each as a table of its own, and INC has other places.
 #[derive(Drop, Debug)]
 pub struct RunLists<'a, F> {
     pub reads: &'a mut [usize],
@@ -121,6 +122,7 @@ impl<'a, F: Field> RunLists<'a, F> {
 }
 
 // The answer to operations that are to be made a run.
+// Sizes and operations stay two parameters: a struct of both would be made for this call only, to be taken apart in it.
 fn check_operations<F: Field>(sizes: Sizes, operations: &[Operation<F>]) -> Result<(), Refusal>
     ensures { result ≡ operations_answer sizes operations.now }
 {

@@ -1,5 +1,5 @@
 -- The answers of a table given by the entry at each index, and of an extension.
-use Rattle.std.proofs.Common.{◌≡◌, ℕ, ◌^◌, ◌<◌, ◌≤◌, true, eqb, List, length, get_or, take, Ok, Result, sym, ap, ◌∙◌, arith, length-take-le, get_or-take, lt-ltb, eq-eqb, true-eqb}
+use Rattle.std.proofs.Common.{◌≡◌, ℕ, ◌^◌, ◌<◌, ◌≤◌, true, eqb, List, length, get_or, take, Ok, Result, sym, ap, ◌∙◌, arith, length-take-le, get_or-take, ltb, ltb-true, eq-eqb, true-eqb}
 use Rattle.std.proofs.lemmas.List.FromFn.{get_or-map-range_with_len}
 use Rattle.fields.specs.Fields.{FieldOf, elements}
 use Rattle.fields.specs.declared.refusal.Refusal.{Refusal}
@@ -18,8 +18,8 @@ module _ {F : Type 0} (f : FieldOf F) (n : ℕ) (few : n ≤ most_variables) (g 
   opens p v h e =
       let same = ext_cong f n (entry f (tabulate (2 ^ n) g)) g p (λ i k. get_or-tabulate (2 ^ n) i g f.zero k) in rw (sym h) (ap Ok (e ∙ sym same))
 
-  pub gives : (i : ℕ) (v : F) → i < 2 ^ n → v ≡ g i → Ok v ≡ entry_answer f (table_of n few g) i
-  gives i v h e = rw (lt-ltb i (2 ^ n) h) (ap Ok (e ∙ sym (get_or-tabulate (2 ^ n) i g f.zero h)))
+  pub gives : (i : ℕ) (v : F) → true ≡ ltb i (2 ^ n) → v ≡ g i → Ok v ≡ entry_answer f (table_of n few g) i
+  gives i v h e = rw (sym h) (ap Ok (e ∙ sym (get_or-tabulate (2 ^ n) i g f.zero (ltb-true i (2 ^ n) (sym h)))))
 
 -- the list is a table, and the point fits it
 pub on_fitting_table : {F : Type 0} (f : FieldOf F) (es p : List F) (v : F) → length es ≡ 2 ^ variables_in (length es)

@@ -15,10 +15,6 @@ use Rattle.tables.specs.declared.maker.RunLists.{RunLists}
 use Rattle.tables.proofs.Placed.{length-placed, get_or-placed, placed_more, placed-set, placed_cong}
 use Rattle.tables.proofs.Cells.{cell_cong}
 
--- the lists are long enough for a run
-abbrev pub RoomIn : {F : Type 0} → Sizes → RunLists F → Type 0
-RoomIn s lists = Room s (length lists.reads.now) (length lists.writes.now) (length lists.rv.now) (length lists.wv.now) (length lists.inc.now)
-
 module _ {F : Type 0} (f : FieldOf F) (s : Sizes) (ops : List (Operation F)) where
   -- INC after the first j cycles
   abbrev pub inc_upto : ℕ → ℕ → F
@@ -76,7 +72,7 @@ module _ {F : Type 0} (f : FieldOf F) (s : Sizes) (ops : List (Operation F)) whe
           ]
         ]
 
-  module _ (j : ℕ) (old lists : RunLists F) (room : RoomIn s old) (below : j < cycle_count s) (e : Entered j old lists) where
+  module _ (j : ℕ) (old lists : RunLists F) (room : Room s old) (below : j < cycle_count s) (e : Entered j old lists) where
     -- there is room for cycle j
     pub room_left : (j < length lists.reads.now) × (j < length lists.writes.now) × (j < length lists.rv.now) × (j < length lists.wv.now)
     room_left =

@@ -1,7 +1,9 @@
 -- Items with their addresses in range: the first that is not, and none.
-use Rattle.std.proofs.Common.{◌≡◌, ℕ, suc, ◌+◌, Bool, true, false, cond, not, List, [], ◌∷◌, Option, Some, None, Ok, Err, Result, refl, ap, ◌∙◌, add-one}
+use Rattle.std.proofs.Common.{◌≡◌, ℕ, suc, ◌+◌, Bool, true, false, cond, not, List, [], ◌∷◌, Option, Some, None, Ok, Err, Result, sym, refl, ap, ◌∙◌, add-one}
 use Rattle.std.specs.List.{position, position_from}
 use Rattle.std.proofs.lemmas.Iterator.Adapters.{position_from-zero}
+use Rattle.std.specs.Result.{IsErrAnd}
+use Rattle.std.proofs.lemmas.Result.{err_from_is_err_and}
 use Rattle.fields.specs.declared.refusal.Refusal.{Refusal}
 use Rattle.fields.specs.declared.refusal.Refusal.TheVariants.{AddressTooLarge}
 use Rattle.tables.specs.Kinds.{if_all}
@@ -38,7 +40,7 @@ all_ranged ranged j (x ∷ xs) v h = by (ranged x) h (all_ranged ranged (suc j) 
     by true e rest = rest e
     by false e rest = cc
 
-pub not_ranged : {X A : Type 0} (ranged : X → Bool) (j : ℕ) (xs : List X) (v : Result A Refusal) (e : Refusal) → if_all ranged j xs (Ok (tt {0})) ≡ Err e → if_all ranged j xs v ≡ Err e
+not_ranged : {X A : Type 0} (ranged : X → Bool) (j : ℕ) (xs : List X) (v : Result A Refusal) (e : Refusal) → if_all ranged j xs (Ok (tt {0})) ≡ Err e → if_all ranged j xs v ≡ Err e
 not_ranged ranged j [] v e h = cc
 not_ranged ranged j (x ∷ xs) v e h = by (ranged x) h (not_ranged ranged (suc j) xs v e)
   where
@@ -46,3 +48,8 @@ not_ranged ranged j (x ∷ xs) v e h = by (ranged x) h (not_ranged ranged (suc j
         → cond b (if_all ranged (suc j) xs v) (Err (AddressTooLarge j)) ≡ Err e
     by true h rest = rest h
     by false h rest = cc
+
+-- what the exit of a `?` on such a walk returns
+pub exit_ranged : {X A : Type 0} (ranged : X → Bool) (xs : List X) (v r : Result A Refusal) (e : Refusal) → IsErrAnd r (λ y. y ≡ e) → Err e ≡ if_all ranged 0 xs (Ok (tt {0}))
+    → r ≡ if_all ranged 0 xs v
+exit_ranged ranged xs v r e h k = let p = err_from_is_err_and r h in rw (p.1, p.2) (sym (not_ranged ranged 0 xs v e (sym k)))

@@ -1,5 +1,5 @@
 -- The lists of the run maker are a right run.
-use Rattle.std.proofs.Common.{◌≡◌, ℕ, zero, suc, ◌+◌, ◌*◌, ◌^◌, ◌<◌, Bool, true, false, cond, eqb, leb, List, [], ◌∷◌, length, get_or, take, Ok, Err, Result, sym, refl, ap, ◌∙◌, ap₂, arith, pow_pos, pow-add, leb-true}
+use Rattle.std.proofs.Common.{◌≡◌, ℕ, zero, suc, ◌+◌, ◌*◌, ◌^◌, ◌<◌, Bool, true, false, cond, eqb, List, [], ◌∷◌, length, get_or, take, Ok, Err, Result, sym, refl, ap, ◌∙◌, ap₂, arith, pow_pos, pow-add, leb-true}
 use Rattle.std.proofs.lemmas.Bool.Decides.{nat_tests}
 use mathlib.Core.Path.{transport}
 use native.Mathlib.Decide.{dec_lt}
@@ -7,7 +7,7 @@ use lib.Arith.{digits_lt, digits_div, digits_mod}
 use lib.ListN.{get_or-eq_default}
 use Rattle.fields.specs.Fields.{FieldOf, less}
 use Rattle.fields.specs.declared.refusal.Refusal.{Refusal}
-use Rattle.fields.specs.declared.refusal.Refusal.TheVariants.{AddressTooLarge, WrongCount}
+use Rattle.fields.specs.declared.refusal.Refusal.TheVariants.{AddressTooLarge}
 use Rattle.tables.specs.Sizes.{k, cell_count, cycle_count}
 use Rattle.tables.specs.Tables.{tabulate, entry}
 use Rattle.tables.specs.Kinds.{if_all, chunk, one_hot_entry, one_hot_table}
@@ -15,6 +15,7 @@ use Rattle.tables.specs.Run.{cell, Addressed}
 use Rattle.tables.specs.Maker.{placed, addressed_below, operations_answer, Fitting, operation, read_at, write_at, value_at, held_at, rv_at, increment_at, inc_at, one_hots, RunOf}
 use Rattle.tables.specs.declared.size.Sizes.{Sizes}
 use Rattle.tables.specs.declared.maker.Operation.{Operation}
+use Rattle.tables.proofs.Made.{passed}
 use Rattle.tables.proofs.Entries.{get_or-tabulate}
 use Rattle.tables.proofs.Placed.{take-placed}
 use Rattle.tables.proofs.Cells.{cell_cong}
@@ -33,19 +34,15 @@ all_passed {X = X} ranged j (x ∷ xs) v a h = by (ranged x) refl h (all_passed 
         each : (i : ℕ) (d : X) → i < length (x ∷ xs) → ranged (get_or (x ∷ xs) i d) ≡ true
         each zero d b = e
         each (suc i) d b = (rest q).1 i d (omega arith)
-    by false e q rest = let z : ◌≡◌ {A = ℕ} 0 1 = cc in absurd (omega arith)
-
-counted : (b : Bool) → ◌≡◌ {A = Result (Unit {0}) Refusal} (cond b (Ok tt) (Err WrongCount)) (Ok tt) → b ≡ true
-counted true h = refl
-counted false h = let z : ◌≡◌ {A = ℕ} 0 1 = cc in absurd (omega arith)
+    by false e q rest = absurd (cc)
 
 pub fitting : {F : Type 0} (s : Sizes) (ops : List (Operation F)) → operations_answer s ops ≡ Ok tt → Fitting s ops
 fitting s ops h =
-    let passed = all_passed (addressed_below (cell_count s)) 0 ops _ tt h in
+    let all = all_passed (addressed_below (cell_count s)) 0 ops _ tt h in
     record {
-      few = leb-true (length ops) (cycle_count s) (counted (leb (length ops) (cycle_count s)) passed.0);
-      reads_below = λ j o b. let both = passed.1 j o b in grind (arith, nat_tests);
-      writes_below = λ j o b. let both = passed.1 j o b in grind (arith, nat_tests);
+      few = leb-true (length ops) (cycle_count s) (sym (passed _ (sym all.0)));
+      reads_below = λ j o b. let both = all.1 j o b in grind (arith, nat_tests);
+      writes_below = λ j o b. let both = all.1 j o b in grind (arith, nat_tests);
     }
 
 module _ {F : Type 0} (f : FieldOf F) (s : Sizes) where

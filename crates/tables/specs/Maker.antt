@@ -24,20 +24,24 @@ if_made (Err e) new old = old
 abbrev pub addressed_below : {F : Type 0} → ℕ → Operation F → Bool
 addressed_below bound o = nat_lt o.read bound && nat_lt o.write bound
 
--- lists of so many places for the addresses, RV, WV and INC are long enough
-abbrev pub has_room : Sizes → ℕ → ℕ → ℕ → ℕ → ℕ → Bool
-has_room s reads writes rv wv inc =
-    let T = cycle_count s in nat_le T reads && nat_le T writes && nat_le T rv && nat_le T wv && nat_le (cell_count s * T) inc
+-- the lists are long enough for a run
+abbrev pub has_room : {F : Type 0} → Sizes → RunLists F → Bool
+has_room s lists =
+    let T = cycle_count s in
+    nat_le T (length lists.reads.now)
+    && nat_le T (length lists.writes.now)
+    && nat_le T (length lists.rv.now)
+    && nat_le T (length lists.wv.now)
+    && nat_le (cell_count s * T) (length lists.inc.now)
 
 -- the answer to operations: their addresses below K, and no more of them than cycles
 abbrev pub operations_answer : {F : Type 0} → Sizes → List (Operation F) → Result (Unit {0}) Refusal
 operations_answer s operations =
     if_all (addressed_below (cell_count s)) 0 operations (cond (nat_le (length operations) (cycle_count s)) (Ok tt) (Err WrongCount))
 
--- the answer to operations, and lists of so many places for the addresses, RV, WV and INC
-abbrev pub run_answer : {F : Type 0} → Sizes → List (Operation F) → ℕ → ℕ → ℕ → ℕ → ℕ → Result (Unit {0}) Refusal
-run_answer s operations reads writes rv wv inc =
-    cond (has_room s reads writes rv wv inc) (operations_answer s operations) (Err TooShort)
+-- the answer to operations, and lists for their run
+abbrev pub run_answer : {F : Type 0} → Sizes → List (Operation F) → RunLists F → Result (Unit {0}) Refusal
+run_answer s operations lists = cond (has_room s lists) (operations_answer s operations) (Err TooShort)
 
 -- the lists after a call are those before it, with other entries
 pub record SameLists {F : Type 0} (old new : RunLists F) : Type 0 where
@@ -47,13 +51,13 @@ pub record SameLists {F : Type 0} (old new : RunLists F) : Type 0 where
   pub wv : new.wv.ghost_name ≡ old.wv.ghost_name
   pub inc : new.inc.ghost_name ≡ old.inc.ghost_name
 
--- lists of so many places are long enough for a run
-pub record Room (s : Sizes) (reads writes rv wv inc : ℕ) : Type 0 where
-  pub in_reads : cycle_count s ≤ reads
-  pub in_writes : cycle_count s ≤ writes
-  pub in_rv : cycle_count s ≤ rv
-  pub in_wv : cycle_count s ≤ wv
-  pub in_inc : cell_count s * cycle_count s ≤ inc
+-- the lists are long enough for a run, one fact for each
+pub record Room {F : Type 0} (s : Sizes) (lists : RunLists F) : Type 0 where
+  pub in_reads : cycle_count s ≤ length lists.reads.now
+  pub in_writes : cycle_count s ≤ length lists.writes.now
+  pub in_rv : cycle_count s ≤ length lists.rv.now
+  pub in_wv : cycle_count s ≤ length lists.wv.now
+  pub in_inc : cell_count s * cycle_count s ≤ length lists.inc.now
 
 -- operations that are at most one for each cycle, with addresses below K
 pub record Fitting {F : Type 0} (s : Sizes) (operations : List (Operation F)) : Type 0 where

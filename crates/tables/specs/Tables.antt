@@ -1,5 +1,5 @@
 -- What a table means, and what it answers.
-use Rattle.std.specs.Prelude.{◌≡◌, ℕ, zero, suc, ◌^◌, ◌≤◌, Bool, true, false, cond, List, map, length, Ok, Err, Result, ◌==◌, nat_le, nat_lt, slice_index_or}
+use Rattle.std.specs.Prelude.{◌≡◌, ℕ, zero, suc, ◌^◌, ◌≤◌, Bool, true, false, cond, List, [], ◌∷◌, map, length, Ok, Err, Result, ◌==◌, nat_le, nat_lt, slice_index_or}
 use Rattle.std.proofs.Common.{le_refl, arith}
 use Rattle.std.specs.List.{range_with_len}
 use Rattle.std.proofs.lemmas.List.FromFn.{length-map-range_with_len}
@@ -45,6 +45,12 @@ variables_in count = variables_upto most_variables count
 -- a list of so many entries is a table
 abbrev pub is_table : ℕ → Bool
 is_table count = 2 ^ variables_in count == count
+
+-- h over the pairs of two lists, from the last pair to the first, begun with start
+abbrev pub folded_pairs : {A B : Type 0} → (B → A → A → B) → B → List A → List A → B
+folded_pairs h start [] ys = start
+folded_pairs h start (x ∷ xs) [] = start
+folded_pairs h start (x ∷ xs) (y ∷ ys) = h (folded_pairs h start xs ys) x y
 
 module _ {F : Type 0} (f : FieldOf F) where
   -- an entry of a list

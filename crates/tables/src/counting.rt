@@ -2,7 +2,7 @@
 ghost use Rattle.std.specs.Prelude.{◌≡◌, ◌≤◌};
 ghost use Rattle.tables.specs.Limits.{most_variables};
 
-use crate::formulas::fits;
+use crate::formulas::{check_fits, check_index};
 use crate::size::MOST_VARIABLES;
 use crate::table::{Committed, Listed};
 use fields::field::Field;
@@ -39,9 +39,7 @@ impl<F: Field> Committed<F> for Counting {
 
     // The point read as a number in base two, its first element on top.
     fn open(&self, head: &[F], tail: &[F]) -> Result<F, Refusal> {
-        if !fits(head, tail, self.variables) {
-            return Err(Refusal::OutsideTable);
-        }
+        check_fits(head, tail, self.variables)?;
         let point = head.iter().chain(tail);
         Ok(point.fold(F::zero_element(), |sum, x| sum.plus(sum).plus(*x)))
     }
@@ -49,9 +47,7 @@ impl<F: Field> Committed<F> for Counting {
 
 impl<F: Field> Listed<F> for Counting {
     fn entry(&self, index: usize) -> Result<F, Refusal> {
-        if index >= 1 << self.variables {
-            return Err(Refusal::OutsideTable);
-        }
+        check_index(index, self.variables)?;
         let mut sum = F::zero_element();
         for _ in 0..index {
             sum = sum.plus(F::one_element());

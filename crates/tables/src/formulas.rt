@@ -1,10 +1,11 @@
 // The formulas of the protocol, over slices of elements of any field.
-ghost use Rattle.std.specs.Prelude.{◌≡◌, ◌%◌, ◌^◌, ◌<◌, ◌≤◌, ◌++◌, length, ◌==◌};
+ghost use Rattle.std.specs.Prelude.{◌≡◌, ◌%◌, ◌^◌, ◌<◌, ◌≤◌, ◌++◌, cond, length, Ok, Err, ◌==◌, nat_lt};
 ghost use Rattle.fields.specs.Fields.{elements};
+ghost use Rattle.fields.specs.declared.refusal.Refusal.TheVariants.{OutsideTable};
 ghost use Rattle.tables.specs.Limits.{most_variables};
 ghost use Rattle.tables.specs.Formulas.{eq, eq_pair, lt, between, extension};
 ghost use Rattle.tables.specs.Sums.{bit, corner, extension_sum};
-ghost use Rattle.tables.specs.Tables.{entry, on_points, on_table, variables_in};
+ghost use Rattle.tables.specs.Tables.{entry, folded_pairs, on_points, on_table, variables_in};
 
 use crate::size::MOST_VARIABLES;
 use fields::field::Field;
@@ -18,31 +19,40 @@ fn eq_of<F: Field>(x: F, y: F) -> F
     x.times(y).plus(one.minus(x).times(one.minus(y)))
 }
 
-// eq of two points.
-pub fn eq_at<F: Field>(x: &[F], y: &[F]) -> Result<F, Refusal>
-    ensures { result ≡ on_points F.Field.field x.now y.now (eq F.Field.field (elements F.Field.field) x.now y.now) }
+// A fold over the pairs of two points of one length, from the last pair to the first.
+fn fold_pairs<F: Field, G: Fn(F, F, F) -> F>(
+    x: &[F],
+    y: &[F],
+    start: F,
+    step: G,
+) -> Result<F, Refusal>
+    requires { G.IsAlwaysCallable step }
+    ensures { (h : F → F → F → F) → ((z a b r : F) → G.post step z a b r → r ≡ h z a b) → result ≡ on_points F.Field.field x.now y.now (folded_pairs h start x.now y.now) }
 {
     if x.len() != y.len() {
         return Err(Refusal::OutsideTable);
     }
     let pairs = x.iter().rev().zip(y.iter().rev());
-    Ok(pairs.fold(F::one_element(), |product, (a, b)| {
-        eq_of(*a, *b).times(product)
-    }))
+    Ok(pairs.fold(start, |so_far, (a, b)| step(so_far, *a, *b)))
+}
+
+// eq of two points.
+pub fn eq_at<F: Field>(x: &[F], y: &[F]) -> Result<F, Refusal>
+    ensures { result ≡ on_points F.Field.field x.now y.now (eq F.Field.field (elements F.Field.field) x.now y.now) }
+{
+    fold_pairs(x, y, F::one_element(), |product, a, b| {
+        eq_of(a, b).times(product)
+    })
 }
 
 // LT of two points.
 pub fn lt_at<F: Field>(x: &[F], y: &[F]) -> Result<F, Refusal>
     ensures { result ≡ on_points F.Field.field x.now y.now (lt F.Field.field (elements F.Field.field) x.now y.now) }
 {
-    if x.len() != y.len() {
-        return Err(Refusal::OutsideTable);
-    }
     let one = F::one_element();
-    let pairs = x.iter().rev().zip(y.iter().rev());
-    Ok(pairs.fold(F::zero_element(), |less, (a, b)| {
-        one.minus(*a).times(*b).plus(eq_of(*a, *b).times(less))
-    }))
+    fold_pairs(x, y, F::zero_element(), |less, a, b| {
+        one.minus(a).times(b).plus(eq_of(a, b).times(less))
+    })
 }
 
 // The value at `x` of the line that is `low` at zero and `high` at one.
@@ -64,14 +74,31 @@ pub(crate) fn variables_of(count: usize) -> usize
     MOST_VARIABLES.min(count.ilog2() as usize)
 }
 
-// Whether a point in two parts has `n` elements.
-pub(crate) fn fits<F: Field>(head: &[F], tail: &[F], n: usize) -> bool
-    ensures { result ≡ (length (head.now ++ tail.now) == n) }
+// Refuses a point in two parts that has not `n` elements.
+pub(crate) fn check_fits<F: Field>(head: &[F], tail: &[F], n: usize) -> Result<(), Refusal>
+    ensures { result ≡ cond (length (head.now ++ tail.now) == n) (Ok tt) (Err OutsideTable) }
 {
-    head.len().checked_add(tail.len()) == Some(n)
+    if head.len().checked_add(tail.len()) == Some(n) {
+        Ok(())
+    } else {
+        Err(Refusal::OutsideTable)
+    }
 }
 
-// The extension at one point of a list that fits it, by halves; the last two variables are written out.
+// Refuses an index that is not below 2^n.
+pub(crate) fn check_index(index: usize, n: usize) -> Result<(), Refusal>
+    requires { n ≤ most_variables }
+    ensures { result ≡ cond (nat_lt index (2 ^ n)) (Ok tt) (Err OutsideTable) }
+{
+    if index < 1 << n {
+        Ok(())
+    } else {
+        Err(Refusal::OutsideTable)
+    }
+}
+
+// The extension at one point of a list that fits it, by halves.
+// The last two variables are written out: without these arms 2^12 entries take 1.75 times as long.
 fn extend<F: Field>(items: &[F], point: &[F]) -> F
     requires { length items.now ≡ 2 ^ length point.now }
     ensures { result ≡ extension F.Field.field (elements F.Field.field) (length point.now) (entry F.Field.field items.now) point.now }
@@ -92,6 +119,7 @@ fn extend<F: Field>(items: &[F], point: &[F]) -> F
 }
 
 // The extension at a point in two parts of a list that fits it.
+// A recursion of its own: one in place of both, which carries two parts all the way down, takes 1.15 times as long.
 fn extend_joined<F: Field>(items: &[F], head: &[F], tail: &[F]) -> F
     requires { length items.now ≡ 2 ^ length (head.now ++ tail.now) }
     ensures { result ≡ extension F.Field.field (elements F.Field.field) (length (head.now ++ tail.now)) (entry F.Field.field items.now) (head.now ++ tail.now) }
@@ -109,6 +137,7 @@ fn extend_joined<F: Field>(items: &[F], head: &[F], tail: &[F]) -> F
 }
 
 // eq of the last bit of a number and an element.
+// A choice: eq of the bit as an element would cost two multiplications.
 fn bit_weight<F: Field>(number: usize, x: F) -> F
     ensures { result ≡ eq_pair F.Field.field (elements F.Field.field) (bit F.Field.field (number % 2)) x }
 {
@@ -121,13 +150,12 @@ fn bit_weight<F: Field>(number: usize, x: F) -> F
 
 // eq of the bits of a number and a point.
 pub(crate) fn weight<F: Field>(number: usize, point: &[F]) -> F
+    requires { length point.now ≤ most_variables }
     ensures { result ≡ eq F.Field.field (elements F.Field.field) (corner F.Field.field (length point.now) number) point.now }
 {
     let mut product = F::one_element();
-    let mut rest = number;
-    for x in point.iter().rev() {
-        product = bit_weight(rest, *x).times(product);
-        rest /= 2;
+    for (i, x) in point.iter().rev().enumerate() {
+        product = bit_weight(number >> i, *x).times(product);
     }
     product
 }
@@ -141,9 +169,7 @@ pub fn extension_joined<F: Field>(items: &[F], head: &[F], tail: &[F]) -> Result
     if items.len() != 1 << n {
         return Err(Refusal::OutsideLimits);
     }
-    if !fits(head, tail, n) {
-        return Err(Refusal::OutsideTable);
-    }
+    check_fits(head, tail, n)?;
     Ok(extend_joined(items, head, tail))
 }
 

@@ -32,10 +32,12 @@ fn clear<F: Field>(list: &mut [F], count: usize)
     requires { count ≤ length list.old }
     ensures { list.new ≡ placed count (λ _. F.Field.field.zero) list.old }
 {
+    // Not `fill`, which asks for a clone that cannot fail: the bound on F does not say that.
     list[..count].fill_with(|| F::zero_element());
 }
 
 // The lists that a run is written to: the addresses read and written, RV, WV and INC.
+// Five lists and not one of cycles: who reads a run takes each as a table of its own, and INC has other places.
 #[derive(Drop, Debug)]
 pub struct RunLists<'a, F> {
     pub reads: &'a mut [usize],
@@ -48,7 +50,7 @@ pub struct RunLists<'a, F> {
 impl<'a, F: Field> RunLists<'a, F> {
     // Whether the lists are long enough.
     fn has_room(&self, sizes: Sizes) -> bool
-        ensures { result ≡ has_room sizes (length self.now.reads.now) (length self.now.writes.now) (length self.now.rv.now) (length self.now.wv.now) (length self.now.inc.now) }
+        ensures { result ≡ has_room sizes self.now }
     {
         let cycles = sizes.cycles();
         cycles <= self.reads.len()
@@ -92,7 +94,7 @@ impl<'a, F: Field> RunLists<'a, F> {
 
     // Writes the run of operations that fit the sizes to lists that are long enough.
     fn fill(&mut self, sizes: Sizes, operations: &[Operation<F>])
-        requires lengths { Room sizes (length self.old.reads.now) (length self.old.writes.now) (length self.old.rv.now) (length self.old.wv.now) (length self.old.inc.now) }
+        requires lengths { Room sizes self.old }
         requires operations { Fitting sizes operations.now }
         ensures same_lists { SameLists self.old self.new }
         ensures reads { self.new.reads.now ≡ placed (cycle_count sizes) (read_at F.Field.field operations.now) self.old.reads.now }
@@ -120,6 +122,7 @@ impl<'a, F: Field> RunLists<'a, F> {
 }
 
 // The answer to operations that are to be made a run.
+// Sizes and operations stay two parameters: a struct of both would be made for this call only, to be taken apart in it.
 fn check_operations<F: Field>(sizes: Sizes, operations: &[Operation<F>]) -> Result<(), Refusal>
     ensures { result ≡ operations_answer sizes operations.now }
 {
@@ -137,7 +140,7 @@ pub fn make_run<F: Field>(
     lists: &mut RunLists<'_, F>,
 ) -> Result<(), Refusal>
     ensures same_lists { SameLists lists.old lists.new }
-    ensures answer { result ≡ run_answer sizes operations.now (length lists.old.reads.now) (length lists.old.writes.now) (length lists.old.rv.now) (length lists.old.wv.now) (length lists.old.inc.now) }
+    ensures answer { result ≡ run_answer sizes operations.now lists.old }
     ensures reads { lists.new.reads.now ≡ if_made result (placed (cycle_count sizes) (read_at F.Field.field operations.now) lists.old.reads.now) lists.old.reads.now }
     ensures writes { lists.new.writes.now ≡ if_made result (placed (cycle_count sizes) (write_at F.Field.field operations.now) lists.old.writes.now) lists.old.writes.now }
     ensures rv { lists.new.rv.now ≡ if_made result (placed (cycle_count sizes) (rv_at F.Field.field operations.now) lists.old.rv.now) lists.old.rv.now }

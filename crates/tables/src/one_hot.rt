@@ -7,7 +7,7 @@ ghost use Rattle.tables.specs.Sums.{corner};
 ghost use Rattle.tables.specs.Sizes.{cycle_count};
 
 use crate::addresses::check_addresses;
-use crate::formulas::{fits, weight};
+use crate::formulas::{check_fits, check_index, weight};
 use crate::size::Sizes;
 use crate::table::{Committed, Listed};
 use fields::field::Field;
@@ -74,9 +74,7 @@ impl<'a, F: Field> Committed<F> for OneHot<'a> {
 
     // The sum, over the cycles, of the weight of the one entry that is one.
     fn open(&self, head: &[F], tail: &[F]) -> Result<F, Refusal> {
-        if !fits(head, tail, self.sizes.chunk_variables()) {
-            return Err(Refusal::OutsideTable);
-        }
+        check_fits(head, tail, self.sizes.chunk_variables())?;
         let cycles = self.sizes.cycles();
         let mut sum = F::zero_element();
         for (j, address) in self.addresses.iter().enumerate() {
@@ -89,9 +87,7 @@ impl<'a, F: Field> Committed<F> for OneHot<'a> {
 
 impl<'a, F: Field> Listed<F> for OneHot<'a> {
     fn entry(&self, index: usize) -> Result<F, Refusal> {
-        if index >= 1 << self.sizes.chunk_variables() {
-            return Err(Refusal::OutsideTable);
-        }
+        check_index(index, self.sizes.chunk_variables())?;
         let cycles = self.sizes.cycles();
         let (row, cycle) = (index / cycles, index % cycles);
         if self.chunk_of(self.addresses[cycle]) == row {

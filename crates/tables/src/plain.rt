@@ -3,7 +3,7 @@ ghost use Rattle.std.specs.Prelude.{◌≡◌, true, length};
 ghost use Rattle.tables.specs.Tables.{is_table};
 ghost use Rattle.tables.specs.Kinds.{plain_table, plain_answer};
 
-use crate::formulas::{extension_joined, fits, variables_of};
+use crate::formulas::{check_fits, check_index, extension_joined, variables_of};
 use crate::table::{Committed, Listed};
 use fields::field::Field;
 use fields::refusal::Refusal;
@@ -40,9 +40,7 @@ impl<'a, F: Field> Committed<F> for PlainList<'a, F> {
     fn open(&self, head: &[F], tail: &[F]) -> Result<F, Refusal> {
         let items = self.items;
         let n = variables_of(items.len());
-        if !fits(head, tail, n) {
-            return Err(Refusal::OutsideTable);
-        }
+        check_fits(head, tail, n)?;
         if items.is_empty() {
             return Ok(F::zero_element());
         }
@@ -53,9 +51,7 @@ impl<'a, F: Field> Committed<F> for PlainList<'a, F> {
 impl<'a, F: Field> Listed<F> for PlainList<'a, F> {
     fn entry(&self, index: usize) -> Result<F, Refusal> {
         let items = self.items;
-        if index >= 1 << variables_of(items.len()) {
-            return Err(Refusal::OutsideTable);
-        }
+        check_index(index, variables_of(items.len()))?;
         Ok(items.get(index).copied().unwrap_or(F::zero_element()))
     }
 }

@@ -15,6 +15,7 @@ pub trait Committed<F: Field> {
         ensures { result ≡ (table self.now).variables };
 
     // The extension at a point in two parts.
+    // Two slices, as a caller has them: a struct of both would be made for each opening only to be taken apart.
     fn open(&self, head: &[F], tail: &[F]) -> Result<F, Refusal>
         ensures { result ≡ opened F.Field.field (table self.now) (head.now ++ tail.now) };
 }

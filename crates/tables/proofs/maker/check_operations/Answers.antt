@@ -1,20 +1,19 @@
 use Rattle.std.proofs.Common.{ℕ, ◌<◌, ◌≤◌, Ok, Err, Result, cond, leb, length, sym, ap, ◌∙◌, arith, le-leb}
 use borrow.Author.Tests.{lt-leb}
-use Rattle.std.proofs.lemmas.Result.{err_from_is_err_and}
 use Rattle.fields.specs.declared.refusal.Refusal.{Refusal}
 use Rattle.fields.specs.declared.refusal.Refusal.TheVariants.{WrongCount}
 use Rattle.tables.specs.Sizes.{cycle_count}
 use Rattle.tables.specs.Kinds.{if_all}
 use Rattle.tables.specs.Maker.{addressed_below}
-use Rattle.tables.proofs.Ranged.{all_ranged, not_ranged}
+use Rattle.tables.proofs.Ranged.{all_ranged, exit_ranged}
 use Rattle.tables.proofs.maker.check_operations.Goals as goal
 
 pub returns-in_err-check_addresses : goal.returns-in_err-check_addresses
 returns-in_err-check_addresses g c =
     let ops = c.args.operations.now in
     let v : Result (Unit {0}) Refusal = cond (leb (length ops) (cycle_count c.args.sizes)) (Ok tt) (Err WrongCount) in
-    let p = err_from_is_err_and c.from_residual.result c.from_residual.ensures.1 in
-    rw (p.1, p.2) (sym (not_ranged (addressed_below c.cells.result) 0 ops v _ (sym c.in_err-check_addresses.ensures)) ∙ ap (λ (k : ℕ). if_all (addressed_below k) 0 ops v) c.cells.ensures)
+    exit_ranged (addressed_below c.cells.result) ops v _ _ c.from_residual.ensures.1 c.in_err-check_addresses.ensures
+    ∙ ap (λ (k : ℕ). if_all (addressed_below k) 0 ops v) c.cells.ensures
 
 pub returns-then-operations-cycles : goal.returns-then-operations-cycles
 returns-then-operations-cycles g c =

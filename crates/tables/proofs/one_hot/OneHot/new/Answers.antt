@@ -1,7 +1,6 @@
 use Rattle.std.proofs.Common.{◌<◌, ◌≤◌, sym, ◌∙◌, arith}
-use Rattle.std.proofs.lemmas.Result.{err_from_is_err_and}
 use Rattle.tables.specs.Kinds.{address_below}
-use Rattle.tables.proofs.Ranged.{all_ranged, not_ranged}
+use Rattle.tables.proofs.Ranged.{all_ranged, exit_ranged}
 use Rattle.tables.proofs.OneHots.{no_chunk_below, no_chunk_above, counted, chunk_answer, wrong_count, right_count}
 use Rattle.tables.proofs.one_hot.OneHot.new.Goals as goal
 use Rattle.tables.proofs.one_hot.OneHot.new.Goals.{then-chunk-lt1-via-then-chunk-lt1, then-chunk-lt1-via-else-chunk-lt1+then-chunk-chunks}
@@ -21,10 +20,8 @@ returns-in_err-check_addresses c =
     let s = c.args.sizes in
     let low = c.if-chunk-lt1.false in
     let high : c.args.chunk ≤ s.d = omega (arith, c.chunks.ensures.value) in
-    let p = err_from_is_err_and c.from_residual.result c.from_residual.ensures.1 in
-    rw (p.1, p.2)
-    (sym (not_ranged (address_below c.cells.result) 0 c.args.addresses.now (counted s c.args.chunk c.args.addresses low high) _ (sym c.in_err-check_addresses.ensures))
-    ∙ chunk_answer s c.args.chunk c.args.addresses low high c.cells.result c.cells.ensures)
+    exit_ranged (address_below c.cells.result) c.args.addresses.now (counted s c.args.chunk c.args.addresses low high) _ _ c.from_residual.ensures.1 c.in_err-check_addresses.ensures
+    ∙ chunk_answer s c.args.chunk c.args.addresses low high c.cells.result c.cells.ensures
 
 pub returns-then-addresses-cycles : goal.returns-then-addresses-cycles
 returns-then-addresses-cycles c =

@@ -1,5 +1,5 @@
 // The proving end: the message of a round and the end value of a stage, as they are due at the challenges so far.
-ghost use Rattle.std.specs.Prelude.{◌≡◌, ◌+◌, ◌-◌, ◌*◌, ◌^◌, ◌<◌, ◌≤◌, true, false, ◌++◌, map, length, drop, MatchResult};
+ghost use Rattle.std.specs.Prelude.{◌≡◌, ◌+◌, ◌-◌, ◌*◌, ◌^◌, ◌<◌, ◌≤◌, true, false, ◌++◌, map, length, MatchResult};
 ghost use Rattle.fields.specs.Fields.{elements};
 ghost use Rattle.tables.specs.Formulas.{eq, lt, extension};
 ghost use Rattle.tables.specs.Sizes.{k};
@@ -24,6 +24,7 @@ use crate::prover::point::Point;
 use fields::field::Field;
 use fields::refusal::Refusal;
 use rounds::polynomial::Polynomial;
+use std::marker::Model;
 use tables::formulas::{eq_at, lt_at};
 use tables::size::Sizes;
 use tables::table::{Committed, Listed};
@@ -36,7 +37,7 @@ fn opened_at<F: Field, C: Committed<F>>(table: &C, head: &[F], tail: &[F]) -> F
     table.open(head, tail).unwrap()
 }
 
-// eq of points of one length.
+// eq of points of one length, which eq_at never refuses: a closure that calls this has no unwrap to prove.
 fn eq_of_points<F: Field>(x: &[F], y: &[F]) -> F
     requires { length x.now ≡ length y.now }
     ensures { result ≡ eq F.Field.field (elements F.Field.field) x.now y.now }
@@ -44,7 +45,7 @@ fn eq_of_points<F: Field>(x: &[F], y: &[F]) -> F
     eq_at(x, y).unwrap()
 }
 
-// LT of points of one length.
+// LT of points of one length, which lt_at never refuses.
 fn lt_of_points<F: Field>(x: &[F], y: &[F]) -> F
     requires { length x.now ≡ length y.now }
     ensures { result ≡ lt F.Field.field (elements F.Field.field) x.now y.now }
@@ -68,8 +69,20 @@ struct Prover<'a, F: Field, A: Committed<F>, M: Listed<F>, V: Committed<F>> {
     plan: Plan,
     tables: &'a Tables<'a, A, M, V>,
     challenges: &'a [F],
-    ghost kind: { plan.kind ≡ kind_of tables.now },
-    ghost fit: { tables_fit A.Committed.table M.Committed.table V.Committed.table plan.sizes tables.now ≡ true },
+}
+
+impl<'a, F: Field, A: Committed<F>, M: Listed<F>, V: Committed<F>> Model
+    for Prover<'a, F, A, M, V> {
+    ghost use Rattle.std.specs.Prelude.{◌≡◌, true};
+    ghost use Rattle.stages.specs.Proving.{Proving};
+
+    ghost Value = { Proving F };
+
+    ghost use Rattle.stages.specs.Models.{kind_of, tables_fit, memory};
+
+    ghost view = { λ p. record { plan = p.plan; memory = memory A.Committed.table M.Committed.table V.Committed.table p.tables.now; challenges = p.challenges.now } };
+
+    ghost invariant = { λ p. (p.plan.kind ≡ kind_of p.tables.now) × (tables_fit A.Committed.table M.Committed.table V.Committed.table p.plan.sizes p.tables.now ≡ true) };
 }
 
 impl<'a, F: Field, A: Committed<F>, M: Listed<F>, V: Committed<F>> Prover<'a, F, A, M, V> {
@@ -79,7 +92,7 @@ impl<'a, F: Field, A: Committed<F>, M: Listed<F>, V: Committed<F>> Prover<'a, F,
         tables: &'a Tables<'a, A, M, V>,
         challenges: &'a [F],
     ) -> Result<Prover<'a, F, A, M, V>, Refusal>
-        ensures { MatchResult result (λ made. (tables_fit A.Committed.table M.Committed.table V.Committed.table sizes tables.now ≡ true) × (made.plan ≡ plan_of sizes tables.now) × (made.tables.now ≡ tables.now) × (made.challenges.now ≡ challenges.now)) (λ refusal. (tables_fit A.Committed.table M.Committed.table V.Committed.table sizes tables.now ≡ false) × (refusal ≡ Refusal.TablesDoNotFit)) }
+        ensures { MatchResult result (λ made. (tables_fit A.Committed.table M.Committed.table V.Committed.table sizes tables.now ≡ true) × (made.plan ≡ plan_of sizes tables.now) × (made.memory ≡ memory A.Committed.table M.Committed.table V.Committed.table tables.now) × (made.challenges ≡ challenges.now)) (λ refusal. (tables_fit A.Committed.table M.Committed.table V.Committed.table sizes tables.now ≡ false) × (refusal ≡ Refusal.TablesDoNotFit)) }
     {
         if !tables_fit(sizes, tables) {
             return Err(Refusal::TablesDoNotFit);
@@ -94,7 +107,7 @@ impl<'a, F: Field, A: Committed<F>, M: Listed<F>, V: Committed<F>> Prover<'a, F,
     // What the memory holds at a point of an address and a cycle.
     fn held_at(&self, point: &[F]) -> F
         requires { length point.now ≡ point_size self.now.plan }
-        ensures { result ≡ held_at F.Field.field self.now.plan (memory A.Committed.table M.Committed.table V.Committed.table self.now.tables.now) (elements F.Field.field) point.now }
+        ensures { result ≡ held_at F.Field.field self.now.plan self.now.memory (elements F.Field.field) point.now }
     {
         let k = self.plan.sizes.address_bits();
         let (address, cycle) = point.split_at(k);
@@ -107,15 +120,16 @@ impl<'a, F: Field, A: Committed<F>, M: Listed<F>, V: Committed<F>> Prover<'a, F,
     // What is written in the cycle of a point, less what the memory holds at the point.
     fn written_at(&self, wv: &V, point: &[F]) -> F
         requires table { (V.Committed.table wv.now).variables ≡ self.now.plan.sizes.t }
-        requires entries { (V.Committed.table wv.now).entries ≡ (memory A.Committed.table M.Committed.table V.Committed.table self.now.tables.now).wv }
+        requires entries { (V.Committed.table wv.now).entries ≡ self.now.memory.wv }
         requires point { length point.now ≡ point_size self.now.plan }
-        ensures { result ≡ written_factor F.Field.field self.now.plan (memory A.Committed.table M.Committed.table V.Committed.table self.now.tables.now) point.now }
+        ensures { result ≡ written_factor F.Field.field self.now.plan self.now.memory point.now }
     {
         let k = self.plan.sizes.address_bits();
         opened_at(wv, &point[k..], &[]).minus(self.held_at(point))
     }
 
     // A chunk table at its chunk of the point's address and at the point's cycle; the first chunk has the number 0.
+    // The table comes bare, and its opener asks for its variables: a type that knew them would hold the sizes again.
     fn chunk_value(&self, table: &A, i: usize, point: &[F]) -> F
         requires within { i < self.now.plan.sizes.d }
         requires table { (A.Committed.table table.now).variables ≡ self.now.plan.sizes.c + self.now.plan.sizes.t }
@@ -153,6 +167,7 @@ impl<'a, F: Field, A: Committed<F>, M: Listed<F>, V: Committed<F>> Prover<'a, F,
     }
 
     // eq times the square of an entry less the entry.
+    // The draws and the ends have lengths of their own in each of these terms, so no type for both could say them.
     fn bits_term(&self, table: &A, draws: &[F], ends: &Ends<F>) -> Polynomial<F>
         requires table { (A.Committed.table table.now).variables ≡ self.now.plan.sizes.c + self.now.plan.sizes.t }
         requires draws { length draws.now ≡ self.now.plan.sizes.c + self.now.plan.sizes.t }
@@ -180,7 +195,7 @@ impl<'a, F: Field, A: Committed<F>, M: Listed<F>, V: Committed<F>> Prover<'a, F,
         requires chunks { chunks_fit self.now.plan.sizes (map A.Committed.table ra.now) ≡ true }
         requires draws { length draws.now ≡ self.now.plan.sizes.t }
         requires ends { length ends.now.low.now ≡ point_size self.now.plan }
-        ensures { coefficients result ≡ kept F.Field.field (product_term F.Field.field self.now.plan.sizes ends.now.low.now ends.now.high.now (map (λ m. (A.Committed.table m).entries) ra.now) (line_of F.Field.field ends.now.low.now ends.now.high.now (λ point. eq F.Field.field (elements F.Field.field) draws.now (cycle_of F.Field.field self.now.plan.sizes (elements F.Field.field) point))) (line_of F.Field.field ends.now.low.now ends.now.high.now (held_at F.Field.field self.now.plan (memory A.Committed.table M.Committed.table V.Committed.table self.now.tables.now) (elements F.Field.field)))) }
+        ensures { coefficients result ≡ kept F.Field.field (product_term F.Field.field self.now.plan.sizes ends.now.low.now ends.now.high.now (map (λ m. (A.Committed.table m).entries) ra.now) (line_of F.Field.field ends.now.low.now ends.now.high.now (λ point. eq F.Field.field (elements F.Field.field) draws.now (cycle_of F.Field.field self.now.plan.sizes (elements F.Field.field) point))) (line_of F.Field.field ends.now.low.now ends.now.high.now (held_at F.Field.field self.now.plan self.now.memory (elements F.Field.field)))) }
     {
         let k = self.plan.sizes.address_bits();
         let weight = ends.line(|point| eq_of_points(draws, &point[k..])).alone();
@@ -192,10 +207,10 @@ impl<'a, F: Field, A: Committed<F>, M: Listed<F>, V: Committed<F>> Prover<'a, F,
     fn write_term(&self, wa: &[A], wv: &V, draws: &[F], ends: &Ends<F>) -> Polynomial<F>
         requires chunks { chunks_fit self.now.plan.sizes (map A.Committed.table wa.now) ≡ true }
         requires table { (V.Committed.table wv.now).variables ≡ self.now.plan.sizes.t }
-        requires entries { (V.Committed.table wv.now).entries ≡ (memory A.Committed.table M.Committed.table V.Committed.table self.now.tables.now).wv }
+        requires entries { (V.Committed.table wv.now).entries ≡ self.now.memory.wv }
         requires draws { length draws.now ≡ point_size self.now.plan }
         requires ends { length ends.now.low.now ≡ point_size self.now.plan }
-        ensures { coefficients result ≡ kept F.Field.field (product_term F.Field.field self.now.plan.sizes ends.now.low.now ends.now.high.now (map (λ m. (A.Committed.table m).entries) wa.now) (line_of F.Field.field ends.now.low.now ends.now.high.now (eq F.Field.field (elements F.Field.field) draws.now)) (line_of F.Field.field ends.now.low.now ends.now.high.now (written_factor F.Field.field self.now.plan (memory A.Committed.table M.Committed.table V.Committed.table self.now.tables.now)))) }
+        ensures { coefficients result ≡ kept F.Field.field (product_term F.Field.field self.now.plan.sizes ends.now.low.now ends.now.high.now (map (λ m. (A.Committed.table m).entries) wa.now) (line_of F.Field.field ends.now.low.now ends.now.high.now (eq F.Field.field (elements F.Field.field) draws.now)) (line_of F.Field.field ends.now.low.now ends.now.high.now (written_factor F.Field.field self.now.plan self.now.memory))) }
     {
         let weight = ends.line(|point| eq_of_points(draws, point)).alone();
         let product = self.times_chunks(wa, ends, weight);
@@ -218,11 +233,10 @@ impl<'a, F: Field, A: Committed<F>, M: Listed<F>, V: Committed<F>> Prover<'a, F,
     // The chunk tables of the reads.
     fn ra(&self) -> &'a [A]
         ensures chunks { chunks_fit self.now.plan.sizes (map A.Committed.table result.now) ≡ true }
-        ensures entries { (memory A.Committed.table M.Committed.table V.Committed.table self.now.tables.now).ra ≡ map (λ m. (A.Committed.table m).entries) result.now }
+        ensures entries { self.now.memory.ra ≡ map (λ m. (A.Committed.table m).entries) result.now }
     {
         match self.tables {
-            Tables::Shout { ra, .. } => *ra,
-            Tables::Twist { ra, .. } => *ra,
+            Tables::Shout { ra, .. } | Tables::Twist { ra, .. } => *ra,
         }
     }
 
@@ -230,7 +244,7 @@ impl<'a, F: Field, A: Committed<F>, M: Listed<F>, V: Committed<F>> Prover<'a, F,
     fn chunk_table(&self, which: ChunkTable) -> &'a A
         requires { ChunkOf self.now.plan.kind self.now.plan.sizes.d which }
         ensures variables { (A.Committed.table result.now).variables ≡ self.now.plan.sizes.c + self.now.plan.sizes.t }
-        ensures entries { chunk_table (memory A.Committed.table M.Committed.table V.Committed.table self.now.tables.now) which ≡ (A.Committed.table result.now).entries }
+        ensures entries { chunk_table self.now.memory which ≡ (A.Committed.table result.now).entries }
     {
         let sizes = self.plan.sizes;
         match (which, self.tables) {
@@ -241,13 +255,14 @@ impl<'a, F: Field, A: Committed<F>, M: Listed<F>, V: Committed<F>> Prover<'a, F,
         }
     }
 
-    // The term of a stage of the plan, by the ends of the round's variable.
+    // The term of a stage of the plan, by the ends of the round's variable: a match, since each kind of stage takes
+    // other parts of the tables.
     fn term(&self, stage: Stage, draws: &[F], before: &[F], ends: &Ends<F>) -> Polynomial<F>
         requires planned { Planned self.now.plan.kind self.now.plan.sizes.d stage }
         requires draws { length draws.now ≡ draw_count self.now.plan stage }
         requires before { stage ≡ Stage.Value → length before.now ≡ point_size self.now.plan }
         requires ends { length ends.now.low.now ≡ rounds self.now.plan stage }
-        ensures { coefficients result ≡ kept F.Field.field (term F.Field.field self.now.plan (memory A.Committed.table M.Committed.table V.Committed.table self.now.tables.now) ends.now.low.now ends.now.high.now stage draws.now before.now) }
+        ensures { coefficients result ≡ kept F.Field.field (term F.Field.field self.now.plan self.now.memory ends.now.low.now ends.now.high.now stage draws.now before.now) }
     {
         match (stage, self.tables) {
             (Stage::Bits(which), _) => self.bits_term(self.chunk_table(which), draws, ends),
@@ -264,9 +279,9 @@ impl<'a, F: Field, A: Committed<F>, M: Listed<F>, V: Committed<F>> Prover<'a, F,
     fn round_polynomial(&self, stage: Stage, start: usize) -> Polynomial<F>
         requires planned { Planned self.now.plan.kind self.now.plan.sizes.d stage }
         requires before { stage ≡ Stage.Value → point_size self.now.plan ≤ start }
-        requires drawn { start + draw_count self.now.plan stage ≤ length self.now.challenges.now }
-        requires left { length self.now.challenges.now < start + draw_count self.now.plan stage + rounds self.now.plan stage }
-        ensures { padded F.Field.field (length (message_from F.Field.field self.now.plan (memory A.Committed.table M.Committed.table V.Committed.table self.now.tables.now) self.now.challenges.now start stage)) (coefficients result) ≡ message_from F.Field.field self.now.plan (memory A.Committed.table M.Committed.table V.Committed.table self.now.tables.now) self.now.challenges.now start stage }
+        requires drawn { start + draw_count self.now.plan stage ≤ length self.now.challenges }
+        requires left { length self.now.challenges < start + draw_count self.now.plan stage + rounds self.now.plan stage }
+        ensures { padded F.Field.field (length (message_from F.Field.field self.now.plan self.now.memory self.now.challenges start stage)) (coefficients result) ≡ message_from F.Field.field self.now.plan self.now.memory self.now.challenges start stage }
     {
         let own = start + self.plan.draws(stage);
         let from = start.saturating_sub(self.plan.point_size());
@@ -296,10 +311,10 @@ struct Round<'a, F: Field, A: Committed<F>, M: Listed<F>, V: Committed<F>> {
 }
 
 impl<'a, F: Field, A: Committed<F>, M: Listed<F>, V: Committed<F>> Round<'a, F, A, M, V> {
-    // The term at corner number `index` of the variables to come.
+    // The term at corner number `index` of the variables to come. RoundOf stands here and at `sum`, and in no third place.
     fn corner_term(&self, index: usize) -> Polynomial<F>
         requires { RoundOf self.now.prover.now.plan self.now.stage self.now.draws.now self.now.before.now self.now.r.now self.now.left }
-        ensures { coefficients result ≡ kept F.Field.field (corner_term F.Field.field self.now.prover.now.plan (memory A.Committed.table M.Committed.table V.Committed.table self.now.prover.now.tables.now) self.now.stage self.now.draws.now self.now.before.now self.now.r.now self.now.left index) }
+        ensures { coefficients result ≡ kept F.Field.field (corner_term F.Field.field self.now.prover.now.plan self.now.prover.now.memory self.now.stage self.now.draws.now self.now.before.now self.now.r.now self.now.left index) }
     {
         let low = Point::new(self.r, F::zero_element(), self.left, index);
         let high = Point::new(self.r, F::one_element(), self.left, index);
@@ -313,7 +328,7 @@ impl<'a, F: Field, A: Committed<F>, M: Listed<F>, V: Committed<F>> Round<'a, F, 
     // The terms at all corners of the variables to come, added up.
     fn sum(&self) -> Polynomial<F>
         requires { RoundOf self.now.prover.now.plan self.now.stage self.now.draws.now self.now.before.now self.now.r.now self.now.left }
-        ensures { coefficients result ≡ kept F.Field.field (poly_sum F.Field.field (2 ^ self.now.left) (corner_term F.Field.field self.now.prover.now.plan (memory A.Committed.table M.Committed.table V.Committed.table self.now.prover.now.tables.now) self.now.stage self.now.draws.now self.now.before.now self.now.r.now self.now.left)) }
+        ensures { coefficients result ≡ kept F.Field.field (poly_sum F.Field.field (2 ^ self.now.left) (corner_term F.Field.field self.now.prover.now.plan self.now.prover.now.memory self.now.stage self.now.draws.now self.now.before.now self.now.r.now self.now.left)) }
     {
         let mut sum = Polynomial::zero();
         for index in 0..1 << self.left {
@@ -325,6 +340,7 @@ impl<'a, F: Field, A: Committed<F>, M: Listed<F>, V: Committed<F>> Round<'a, F, 
 
 // Writes the message that is due into the first places of the output. Refused where none is due, else where the
 // output has no room for it, else where the tables do not fit; a refused call leaves the output as it was.
+// The protocol gives the sizes and the tables apart, and the call has to find out whether they fit.
 pub fn make_message<F: Field, A: Committed<F>, M: Listed<F>, V: Committed<F>>(
     sizes: Sizes,
     tables: &Tables<A, M, V>,

@@ -17,7 +17,7 @@ pub held_at-requires : goal.held_at-requires
 held_at-requires g c =
     let xs = c.args.challenges.now in
     let long = end_point-long c.plan-plan.result (length xs) (sym c.end_value_due.ensures ∙ c.if-not-end_value_due.false) in
-    let (fits, plan, tables, challenges) = c.in_ok-prover.ensures in
+    let (fits, plan, memory_is, challenges) = c.in_ok-prover.ensures in
     ap length (back_part xs (length xs - c.point_size.result) (omega arith)) ∙ length-drop (length xs - c.point_size.result) xs
     ∙ omega (arith, long, c.point_size.ensures, ap point_size c.plan-plan.ensures, ap point_size plan)
 
@@ -30,11 +30,11 @@ returns g c =
     let xs = c.args.challenges.now in
     let from = length xs - c.point_size.result in
     let same = c.plan-plan.ensures in
-    let (fits, plan, tables, challenges) = c.in_ok-prover.ensures in
+    let (fits, plan, memory_is, challenges) = c.in_ok-prover.ensures in
     let due = sym (ap (λ x. end_value_due x (length xs)) same) ∙ sym c.end_value_due.ensures ∙ c.if-not-end_value_due.false in
     let from_is = ap (λ n. length xs - n) (c.point_size.ensures ∙ ap point_size same) in
     ap Ok
     (c.held_at.ensures
-    ∙ ap₂ (λ x t. held_at f x (job t) (elements f) (take (length xs - from) (drop from xs))) plan tables
+    ∙ ap₂ (λ x m. held_at f x m (elements f) (take (length xs - from) (drop from xs))) plan memory_is
     ∙ ap (end_value f p (job c.args.tables.now)) (back_part xs from (omega arith) ∙ ap (λ n. drop n xs) from_is))
     ∙ sym (cond-true (end_value_due p (length xs)) _ _ due ∙ cond-true fit _ _ fits)

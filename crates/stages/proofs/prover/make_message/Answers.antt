@@ -12,8 +12,7 @@ returns-in_err-bound g c =
     let m = memory g.A.Committed.table g.M.Committed.table g.V.Committed.table c.args.tables.now in
     let fit = tables_fit g.A.Committed.table g.M.Committed.table g.V.Committed.table c.args.sizes c.args.tables.now in
     let none =
-    no_message_found c.plan-plan.result _ c.plan-plan.ensures g.F.Field.field m c.args.challenges.now c.place-number.result c.in_ok-stage.stage
-    c.place-number.ensures.place (sym c.stage_at.ensures ∙ c.in_ok-stage.ensures.ok_part) (sym c.bound_at.ensures ∙ c.in_err-bound.ensures.ok_part) in
+    no_message_found c.plan-plan.ensures g.F.Field.field m c.args.challenges.now c.place-number.ensures.place (sym c.stage_at.ensures ∙ c.in_ok-stage.ensures.ok_part) (sym c.bound_at.ensures ∙ c.in_err-bound.ensures.ok_part) in
     let refused : c.from_residual-in_err-bound.result ≡ Err NothingDue = search rules in
     record { answer = refused ∙ sym (ap (message_answer fit c.args.output.now) none); output = sym (ap (message_output fit c.args.output.now) none) }
 
@@ -22,8 +21,7 @@ returns-then-output-bound g c =
     let m = memory g.A.Committed.table g.M.Committed.table g.V.Committed.table c.args.tables.now in
     let fit = tables_fit g.A.Committed.table g.M.Committed.table g.V.Committed.table c.args.sizes c.args.tables.now in
     let due =
-    round_found c.plan-plan.result _ c.plan-plan.ensures (length c.args.challenges.now) c.place-number.result c.in_ok-stage.stage c.in_ok-bound.bound
-    c.place-number.ensures.place (sym c.stage_at.ensures ∙ c.in_ok-stage.ensures.ok_part) (sym c.bound_at.ensures ∙ c.in_ok-bound.ensures.ok_part) in
+    round_found c.plan-plan.ensures c.place-number.ensures.place (sym c.stage_at.ensures ∙ c.in_ok-stage.ensures.ok_part) (sym c.bound_at.ensures ∙ c.in_ok-bound.ensures.ok_part) in
     let refused = short_output g.F.Field.field (plan_of c.args.sizes c.args.tables.now) m c.args.challenges.now c.place-number.result c.in_ok-stage.stage c.in_ok-bound.bound due fit c.args.output.now c.if-output-bound.true in
     record { answer = refused.0; output = refused.1 }
 
@@ -32,8 +30,7 @@ returns-in_err-prover g c =
     let m = memory g.A.Committed.table g.M.Committed.table g.V.Committed.table c.args.tables.now in
     let fit = tables_fit g.A.Committed.table g.M.Committed.table g.V.Committed.table c.args.sizes c.args.tables.now in
     let due =
-    round_found c.plan-plan.result _ c.plan-plan.ensures (length c.args.challenges.now) c.place-number.result c.in_ok-stage.stage c.in_ok-bound.bound
-    c.place-number.ensures.place (sym c.stage_at.ensures ∙ c.in_ok-stage.ensures.ok_part) (sym c.bound_at.ensures ∙ c.in_ok-bound.ensures.ok_part) in
+    round_found c.plan-plan.ensures c.place-number.ensures.place (sym c.stage_at.ensures ∙ c.in_ok-stage.ensures.ok_part) (sym c.bound_at.ensures ∙ c.in_ok-bound.ensures.ok_part) in
     let unfit = c.in_err-prover.ensures in
     let refused : c.from_residual-in_err-prover.result ≡ Err TablesDoNotFit = search rules in
     let answer = unfit_tables g.F.Field.field (plan_of c.args.sizes c.args.tables.now) m c.args.challenges.now c.place-number.result c.in_ok-stage.stage c.in_ok-bound.bound due fit c.args.output.now c.if-output-bound.false unfit.0 in
@@ -42,15 +39,13 @@ returns-in_err-prover g c =
 pub overflow_sub-start-2 : goal.overflow_sub-start-2
 overflow_sub-start-2 g c =
     let due =
-    round_found c.plan-plan.result _ c.plan-plan.ensures (length c.args.challenges.now) c.place-number.result c.in_ok-stage.stage c.in_ok-bound.bound
-    c.place-number.ensures.place (sym c.stage_at.ensures ∙ c.in_ok-stage.ensures.ok_part) (sym c.bound_at.ensures ∙ c.in_ok-bound.ensures.ok_part) in
+    round_found c.plan-plan.ensures c.place-number.ensures.place (sym c.stage_at.ensures ∙ c.in_ok-stage.ensures.ok_part) (sym c.bound_at.ensures ∙ c.in_ok-bound.ensures.ok_part) in
     omega (arith, due.count_is)
 
 pub overflow_sub-start-3 : goal.overflow_sub-start-3
 overflow_sub-start-3 g c =
     let due =
-    round_found c.plan-plan.result _ c.plan-plan.ensures (length c.args.challenges.now) c.place-number.result c.in_ok-stage.stage c.in_ok-bound.bound
-    c.place-number.ensures.place (sym c.stage_at.ensures ∙ c.in_ok-stage.ensures.ok_part) (sym c.bound_at.ensures ∙ c.in_ok-bound.ensures.ok_part) in
+    round_found c.plan-plan.ensures c.place-number.ensures.place (sym c.stage_at.ensures ∙ c.in_ok-stage.ensures.ok_part) (sym c.bound_at.ensures ∙ c.in_ok-bound.ensures.ok_part) in
     let drawn : c.draws.result ≡ draws (plan_of c.args.sizes c.args.tables.now) c.in_ok-stage.stage =
     c.draws.ensures ∙ ap (λ p. draws p c.in_ok-stage.stage) c.plan-plan.ensures in
     omega (arith, due.count_is)
@@ -58,13 +53,12 @@ overflow_sub-start-3 g c =
 pub round_polynomial-requires : goal.round_polynomial-requires
 round_polynomial-requires g c =
     let due =
-    round_found c.plan-plan.result _ c.plan-plan.ensures (length c.args.challenges.now) c.place-number.result c.in_ok-stage.stage c.in_ok-bound.bound
-    c.place-number.ensures.place (sym c.stage_at.ensures ∙ c.in_ok-stage.ensures.ok_part) (sym c.bound_at.ensures ∙ c.in_ok-bound.ensures.ok_part) in
+    round_found c.plan-plan.ensures c.place-number.ensures.place (sym c.stage_at.ensures ∙ c.in_ok-stage.ensures.ok_part) (sym c.bound_at.ensures ∙ c.in_ok-bound.ensures.ok_part) in
     let drawn : c.draws.result ≡ draws (plan_of c.args.sizes c.args.tables.now) c.in_ok-stage.stage =
     c.draws.ensures ∙ ap (λ p. draws p c.in_ok-stage.stage) c.plan-plan.ensures in
     let stage = c.in_ok-stage.stage in
     let start = length c.args.challenges.now - (c.place-number.result.1 - 1) - c.draws.result in
-    let (fits, plan, tables, challenges) = c.in_ok-prover.ensures in
+    let (fits, plan, memory_is, challenges) = c.in_ok-prover.ensures in
     let at = sym plan in
     let count = ap length challenges in
     record {
@@ -85,18 +79,17 @@ returns g c =
     let q = coefficients c.round_polynomial.result in
     let made = c.in_ok-prover.prover in
     let due =
-    round_found c.plan-plan.result _ c.plan-plan.ensures (length c.args.challenges.now) c.place-number.result c.in_ok-stage.stage c.in_ok-bound.bound
-    c.place-number.ensures.place (sym c.stage_at.ensures ∙ c.in_ok-stage.ensures.ok_part) (sym c.bound_at.ensures ∙ c.in_ok-bound.ensures.ok_part) in
+    round_found c.plan-plan.ensures c.place-number.ensures.place (sym c.stage_at.ensures ∙ c.in_ok-stage.ensures.ok_part) (sym c.bound_at.ensures ∙ c.in_ok-bound.ensures.ok_part) in
     let drawn : c.draws.result ≡ draws (plan_of c.args.sizes c.args.tables.now) c.in_ok-stage.stage =
     c.draws.ensures ∙ ap (λ p. draws p c.in_ok-stage.stage) c.plan-plan.ensures in
-    let (fits, plan, tables, challenges) = c.in_ok-prover.ensures in
+    let (fits, plan, memory_is, challenges) = c.in_ok-prover.ensures in
     let start : length c.args.challenges.now - (c.place-number.result.1 - 1) - c.draws.result
     ≡ challenges_before (plan_of c.args.sizes c.args.tables.now) (c.place-number.result.0 - 1) =
     omega (arith, due.count_is) in
     let begins =
     subst (λ xs. Begins f from stage q p (job c.args.tables.now) xs) challenges
-    (subst (λ t. Begins f from stage q p (job t) made.challenges.now) tables
-    (subst (λ x. Begins f from stage q x (job made.tables.now) made.challenges.now) plan c.round_polynomial.ensures)) in
+    (subst (λ m. Begins f from stage q p m made.challenges) memory_is
+    (subst (λ x. Begins f from stage q x made.memory made.challenges) plan c.round_polynomial.ensures)) in
     let done =
     message_made f p (job c.args.tables.now) c.args.challenges.now c.place-number.result stage c.in_ok-bound.bound due fit c.args.output.now q _ c.if-output-bound.false
     fits start begins in

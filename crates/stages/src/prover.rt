@@ -5,21 +5,23 @@ ghost use Rattle.tables.specs.Formulas.{eq, lt, extension};
 ghost use Rattle.tables.specs.Sizes.{k};
 ghost use Rattle.tables.specs.Tables.{entry};
 ghost use Rattle.rounds.specs.Accumulators.{coefficients, kept};
-ghost use Rattle.rounds.specs.Polynomials.{padded, line as the_line};
+ghost use Rattle.rounds.specs.Polynomials.{padded};
 ghost use Rattle.stages.specs.Formulas.{cycle_of, held_at};
-ghost use Rattle.stages.specs.Models.{chunks_fit, kind_of, plan_of, tables_fit, memory};
-ghost use Rattle.stages.specs.Terms.{chunk_at_point, times_chunks, bits_term, row_term, value_term, line_of, product_term, written_factor, term, RoundOf, corner_term, poly_sum};
+ghost use Rattle.stages.specs.Models.{kind_of, plan_of, tables_fit, memory};
+ghost use Rattle.stages.specs.Terms.{bits_term, row_term, value_term, line_of, product_term, written_factor, term, RoundOf, corner_term, poly_sum};
 ghost use Rattle.stages.specs.Plan.{ChunkOf, Planned, draws as draw_count, rounds};
-ghost use Rattle.stages.specs.Memory.{chunk_at, chunk_table};
+ghost use Rattle.stages.specs.Memory.{chunk_table};
 ghost use Rattle.stages.specs.Due.{point_size, asks, end_value_due, message_from, due_message, message_answer, message_output, end_value_answer};
 
+mod chunks;
 mod line;
 mod point;
 
 use crate::increments::value_of;
 use crate::memory::{Tables, tables_fit};
 use crate::plan::{ChunkTable, Kind, Plan, Stage};
-use crate::prover::line::{Ends, Line};
+use crate::prover::chunks::ChunkTables;
+use crate::prover::line::Ends;
 use crate::prover::point::Point;
 use fields::field::Field;
 use fields::refusal::Refusal;
@@ -51,16 +53,6 @@ fn lt_of_points<F: Field>(x: &[F], y: &[F]) -> F
     ensures { result ≡ lt F.Field.field (elements F.Field.field) x.now y.now }
 {
     lt_at(x, y).unwrap()
-}
-
-// The chunk table of a number, from 1.
-fn numbered<'a, F: Field, A: Committed<F>>(sizes: Sizes, tables: &'a [A], number: usize) -> &'a A
-    requires chunks { chunks_fit sizes (map A.Committed.table tables.now) ≡ true }
-    requires number { (1 ≤ number) × (number ≤ sizes.d) }
-    ensures variables { (A.Committed.table result.now).variables ≡ sizes.c + sizes.t }
-    ensures entries { chunk_at (map (λ m. (A.Committed.table m).entries) tables.now) number ≡ (A.Committed.table result.now).entries }
-{
-    &tables[number - 1]
 }
 
 // What the proving end has: tables that fit the sizes of the plan, and the challenges so far.
@@ -128,44 +120,6 @@ impl<'a, F: Field, A: Committed<F>, M: Listed<F>, V: Committed<F>> Prover<'a, F,
         opened_at(wv, &point[k..], &[]).minus(self.held_at(point))
     }
 
-    // A chunk table at its chunk of the point's address and at the point's cycle; the first chunk has the number 0.
-    // The table comes bare, and its opener asks for its variables: a type that knew them would hold the sizes again.
-    fn chunk_value(&self, table: &A, i: usize, point: &[F]) -> F
-        requires within { i < self.now.plan.sizes.d }
-        requires table { (A.Committed.table table.now).variables ≡ self.now.plan.sizes.c + self.now.plan.sizes.t }
-        requires point { length point.now ≡ point_size self.now.plan }
-        ensures { result ≡ chunk_at_point F.Field.field self.now.plan.sizes (A.Committed.table table.now).entries i point.now }
-    {
-        let c = self.plan.sizes.chunk_bits();
-        let k = self.plan.sizes.address_bits();
-        let (address, cycle) = point.split_at(k);
-        let from = i * c;
-        opened_at(table, &address[from..from + c], cycle)
-    }
-
-    // The line of a chunk table at its chunk of the address and at the cycle.
-    fn chunk_line(&self, table: &A, i: usize, ends: &Ends<F>) -> Line<F>
-        requires within { i < self.now.plan.sizes.d }
-        requires table { (A.Committed.table table.now).variables ≡ self.now.plan.sizes.c + self.now.plan.sizes.t }
-        requires ends { length ends.now.low.now ≡ point_size self.now.plan }
-        ensures { the_line F.Field.field result.low result.high ≡ line_of F.Field.field ends.now.low.now ends.now.high.now (chunk_at_point F.Field.field self.now.plan.sizes (A.Committed.table table.now).entries i) }
-    {
-        ends.line(|point| self.chunk_value(table, i, point))
-    }
-
-    // A polynomial times the lines of all chunk tables.
-    fn times_chunks(&self, tables: &[A], ends: &Ends<F>, first: Polynomial<F>) -> Polynomial<F>
-        requires fit { chunks_fit self.now.plan.sizes (map A.Committed.table tables.now) ≡ true }
-        requires ends { length ends.now.low.now ≡ point_size self.now.plan }
-        ensures { coefficients result ≡ kept F.Field.field (times_chunks F.Field.field self.now.plan.sizes ends.now.low.now ends.now.high.now (map (λ m. (A.Committed.table m).entries) tables.now) self.now.plan.sizes.d (coefficients first)) }
-    {
-        let mut product = first;
-        for (i, table) in tables.iter().enumerate() {
-            product = self.chunk_line(table, i, ends).times(product);
-        }
-        product
-    }
-
     // eq times the square of an entry less the entry.
     // The draws and the ends have lengths of their own in each of these terms, so no type for both could say them.
     fn bits_term(&self, table: &A, draws: &[F], ends: &Ends<F>) -> Polynomial<F>
@@ -191,29 +145,34 @@ impl<'a, F: Field, A: Committed<F>, M: Listed<F>, V: Committed<F>> Prover<'a, F,
     }
 
     // The term of a read: eq of the cycles, the chunk tables, and what the memory holds.
-    fn read_term(&self, ra: &[A], draws: &[F], ends: &Ends<F>) -> Polynomial<F>
-        requires chunks { chunks_fit self.now.plan.sizes (map A.Committed.table ra.now) ≡ true }
+    fn read_term(&self, draws: &[F], ends: &Ends<F>) -> Polynomial<F>
         requires draws { length draws.now ≡ self.now.plan.sizes.t }
         requires ends { length ends.now.low.now ≡ point_size self.now.plan }
-        ensures { coefficients result ≡ kept F.Field.field (product_term F.Field.field self.now.plan.sizes ends.now.low.now ends.now.high.now (map (λ m. (A.Committed.table m).entries) ra.now) (line_of F.Field.field ends.now.low.now ends.now.high.now (λ point. eq F.Field.field (elements F.Field.field) draws.now (cycle_of F.Field.field self.now.plan.sizes (elements F.Field.field) point))) (line_of F.Field.field ends.now.low.now ends.now.high.now (held_at F.Field.field self.now.plan self.now.memory (elements F.Field.field)))) }
+        ensures { coefficients result ≡ kept F.Field.field (product_term F.Field.field self.now.plan.sizes ends.now.low.now ends.now.high.now self.now.memory.ra (line_of F.Field.field ends.now.low.now ends.now.high.now (λ point. eq F.Field.field (elements F.Field.field) draws.now (cycle_of F.Field.field self.now.plan.sizes (elements F.Field.field) point))) (line_of F.Field.field ends.now.low.now ends.now.high.now (held_at F.Field.field self.now.plan self.now.memory (elements F.Field.field)))) }
     {
         let k = self.plan.sizes.address_bits();
         let weight = ends.line(|point| eq_of_points(draws, &point[k..])).alone();
-        let product = self.times_chunks(ra, ends, weight);
+        let product = self.ra().times(ends, weight);
         ends.line(|point| self.held_at(point)).times(product)
     }
 
     // The term of a write: eq, the chunk tables, and what is written less what the memory holds.
-    fn write_term(&self, wa: &[A], wv: &V, draws: &[F], ends: &Ends<F>) -> Polynomial<F>
-        requires chunks { chunks_fit self.now.plan.sizes (map A.Committed.table wa.now) ≡ true }
+    fn write_term(
+        &self,
+        wa: &ChunkTables<F, A>,
+        wv: &V,
+        draws: &[F],
+        ends: &Ends<F>,
+    ) -> Polynomial<F>
+        requires sizes { wa.now.sizes ≡ self.now.plan.sizes }
         requires table { (V.Committed.table wv.now).variables ≡ self.now.plan.sizes.t }
         requires entries { (V.Committed.table wv.now).entries ≡ self.now.memory.wv }
         requires draws { length draws.now ≡ point_size self.now.plan }
         requires ends { length ends.now.low.now ≡ point_size self.now.plan }
-        ensures { coefficients result ≡ kept F.Field.field (product_term F.Field.field self.now.plan.sizes ends.now.low.now ends.now.high.now (map (λ m. (A.Committed.table m).entries) wa.now) (line_of F.Field.field ends.now.low.now ends.now.high.now (eq F.Field.field (elements F.Field.field) draws.now)) (line_of F.Field.field ends.now.low.now ends.now.high.now (written_factor F.Field.field self.now.plan self.now.memory))) }
+        ensures { coefficients result ≡ kept F.Field.field (product_term F.Field.field self.now.plan.sizes ends.now.low.now ends.now.high.now (map (λ m. (A.Committed.table m).entries) wa.now.tables.now) (line_of F.Field.field ends.now.low.now ends.now.high.now (eq F.Field.field (elements F.Field.field) draws.now)) (line_of F.Field.field ends.now.low.now ends.now.high.now (written_factor F.Field.field self.now.plan self.now.memory))) }
     {
         let weight = ends.line(|point| eq_of_points(draws, point)).alone();
-        let product = self.times_chunks(wa, ends, weight);
+        let product = wa.times(ends, weight);
         ends.line(|point| self.written_at(wv, point)).times(product)
     }
 
@@ -231,12 +190,14 @@ impl<'a, F: Field, A: Committed<F>, M: Listed<F>, V: Committed<F>> Prover<'a, F,
     }
 
     // The chunk tables of the reads.
-    fn ra(&self) -> &'a [A]
-        ensures chunks { chunks_fit self.now.plan.sizes (map A.Committed.table result.now) ≡ true }
-        ensures entries { self.now.memory.ra ≡ map (λ m. (A.Committed.table m).entries) result.now }
+    fn ra(&self) -> ChunkTables<'a, F, A>
+        ensures sizes { result.sizes ≡ self.now.plan.sizes }
+        ensures entries { self.now.memory.ra ≡ map (λ m. (A.Committed.table m).entries) result.tables.now }
     {
         match self.tables {
-            Tables::Shout { ra, .. } | Tables::Twist { ra, .. } => *ra,
+            Tables::Shout { ra, .. } | Tables::Twist { ra, .. } => {
+                ChunkTables::new(self.plan.sizes, *ra)
+            }
         }
     }
 
@@ -248,8 +209,10 @@ impl<'a, F: Field, A: Committed<F>, M: Listed<F>, V: Committed<F>> Prover<'a, F,
     {
         let sizes = self.plan.sizes;
         match (which, self.tables) {
-            (ChunkTable::Ra(number), _) => numbered(sizes, self.ra(), number),
-            (ChunkTable::Wa(number), Tables::Twist { wa, .. }) => numbered(sizes, *wa, number),
+            (ChunkTable::Ra(number), _) => self.ra().numbered(number),
+            (ChunkTable::Wa(number), Tables::Twist { wa, .. }) => {
+                ChunkTables::new(sizes, *wa).numbered(number)
+            }
             // A plan of Shout has no such table.
             (ChunkTable::Wa(_), Tables::Shout { .. }) => unreachable(),
         }
@@ -267,8 +230,11 @@ impl<'a, F: Field, A: Committed<F>, M: Listed<F>, V: Committed<F>> Prover<'a, F,
         match (stage, self.tables) {
             (Stage::Bits(which), _) => self.bits_term(self.chunk_table(which), draws, ends),
             (Stage::Row(which), _) => self.row_term(self.chunk_table(which), draws, ends),
-            (Stage::Read, _) => self.read_term(self.ra(), draws, ends),
-            (Stage::Write, Tables::Twist { wa, wv, .. }) => self.write_term(*wa, *wv, draws, ends),
+            (Stage::Read, _) => self.read_term(draws, ends),
+            (Stage::Write, Tables::Twist { wa, wv, .. }) => {
+                let wa = ChunkTables::new(self.plan.sizes, *wa);
+                self.write_term(&wa, *wv, draws, ends)
+            }
             (Stage::Value, Tables::Twist { inc, .. }) => self.value_term(*inc, before, ends),
             // A plan of Shout has no such stage.
             (Stage::Write | Stage::Value, Tables::Shout { .. }) => unreachable(),

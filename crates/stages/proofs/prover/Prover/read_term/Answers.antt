@@ -1,12 +1,12 @@
-use Rattle.std.proofs.Common.{◌≡◌, ℕ, ◌+◌, ◌-◌, List, map, length, take, drop, ap, ◌∙◌, ap₂, arith, rules}
+use Rattle.std.proofs.Common.{◌≡◌, ℕ, ◌+◌, ◌-◌, List, length, take, drop, sym, ap, ◌∙◌, ap₂, arith, rules}
 use Rattle.fields.specs.Fields.{elements}
 use Rattle.tables.specs.Formulas.{eq}
 use Rattle.tables.specs.Sizes.{k}
-use Rattle.rounds.specs.Accumulators.{kept}
+use Rattle.rounds.specs.Accumulators.{coefficients, kept}
 use Rattle.rounds.specs.Polynomials.{line}
 use Rattle.stages.specs.Formulas.{held_at}
 use Rattle.stages.specs.Proving.{Proving}
-use Rattle.stages.specs.Terms.{line_of}
+use Rattle.stages.specs.Terms.{line_of, times_chunks}
 use Rattle.stages.proofs.Coordinates.{back_part_from}
 use Rattle.stages.proofs.Kept.{product_is}
 use Rattle.stages.proofs.prover.Prover.read_term.Goals as goal
@@ -25,4 +25,5 @@ returns g c =
     let ends : line g.F.Field.field c.line.result.low c.line.result.high ≡ line g.F.Field.field (eq g.F.Field.field (elements g.F.Field.field) c.args.draws.now (take (length c.args.ends.now.low.now - c.address_bits-k.result) (drop c.address_bits-k.result c.args.ends.now.low.now))) (eq g.F.Field.field (elements g.F.Field.field) c.args.draws.now (take (length c.args.ends.now.high.now - c.address_bits-k.result) (drop c.address_bits-k.result c.args.ends.now.high.now))) = search rules in
     let held : line g.F.Field.field c.line-2.result.low c.line-2.result.high ≡ line_of g.F.Field.field c.args.ends.now.low.now c.args.ends.now.high.now (held_at g.F.Field.field c.args.self.now.plan c.args.self.now.memory (elements g.F.Field.field)) = search rules in
     let first = c.alone-weight.ensures ∙ ap (kept f) (ends ∙ ap₂ (λ a b. line f (weight a) (weight b)) (cycle low c.requires.ends) (cycle high (omega (arith, c.requires.ends)))) in
-    product_is f s low high (map (λ m. (g.A.Committed.table m).entries) c.args.ra.now) _ _ _ _ _ _ first c.times_chunks-product.ensures held c.times.ensures
+    let product = c.times-product.ensures ∙ ap₂ (λ s tables. kept f (times_chunks f s low high tables s.d (coefficients c.alone-weight.result))) c.ra.ensures.sizes (sym c.ra.ensures.entries) in
+    product_is f s low high c.args.self.now.memory.ra _ _ _ _ _ _ first product held c.times.ensures

@@ -8,7 +8,7 @@ ghost use Rattle.rounds.specs.Accumulators.{coefficients, kept};
 ghost use Rattle.rounds.specs.Polynomials.{padded};
 ghost use Rattle.stages.specs.Formulas.{cycle_of, held_at};
 ghost use Rattle.stages.specs.Models.{kind_of, plan_of, tables_fit, memory};
-ghost use Rattle.stages.specs.Terms.{bits_term, row_term, value_term, line_of, product_term, written_factor, term, RoundOf, corner_term, poly_sum};
+ghost use Rattle.stages.specs.Terms.{value_term, line_of, product_term, written_factor, term, RoundOf, corner_term, poly_sum};
 ghost use Rattle.stages.specs.Plan.{ChunkOf, Planned, draws as draw_count, rounds};
 ghost use Rattle.stages.specs.Memory.{chunk_table};
 ghost use Rattle.stages.specs.Due.{point_size, asks, end_value_due, message_from, due_message, message_answer, message_output, end_value_answer};
@@ -20,7 +20,7 @@ mod point;
 use crate::increments::value_of;
 use crate::memory::{Tables, tables_fit};
 use crate::plan::{ChunkTable, Kind, Plan, Stage};
-use crate::prover::chunks::ChunkTables;
+use crate::prover::chunks::{Chunk, ChunkTables};
 use crate::prover::line::Ends;
 use crate::prover::point::Point;
 use fields::field::Field;
@@ -120,30 +120,6 @@ impl<'a, F: Field, A: Committed<F>, M: Listed<F>, V: Committed<F>> Prover<'a, F,
         opened_at(wv, &point[k..], &[]).minus(self.held_at(point))
     }
 
-    // eq times the square of an entry less the entry.
-    // The draws and the ends have lengths of their own in each of these terms, so no type for both could say them.
-    fn bits_term(&self, table: &A, draws: &[F], ends: &Ends<F>) -> Polynomial<F>
-        requires table { (A.Committed.table table.now).variables ≡ self.now.plan.sizes.c + self.now.plan.sizes.t }
-        requires draws { length draws.now ≡ self.now.plan.sizes.c + self.now.plan.sizes.t }
-        requires ends { length ends.now.low.now ≡ self.now.plan.sizes.c + self.now.plan.sizes.t }
-        ensures { coefficients result ≡ kept F.Field.field (bits_term F.Field.field self.now.plan.sizes ends.now.low.now ends.now.high.now (A.Committed.table table.now).entries draws.now) }
-    {
-        let entry = ends.line(|point| opened_at(table, point, &[]));
-        let weight = ends.line(|point| eq_of_points(draws, point)).alone();
-        let weighted = entry.times(weight);
-        entry.times(weighted).minus(weighted)
-    }
-
-    // The entry at the draws' cycle.
-    fn row_term(&self, table: &A, draws: &[F], ends: &Ends<F>) -> Polynomial<F>
-        requires table { (A.Committed.table table.now).variables ≡ self.now.plan.sizes.c + self.now.plan.sizes.t }
-        requires draws { length draws.now ≡ self.now.plan.sizes.t }
-        requires ends { length ends.now.low.now ≡ self.now.plan.sizes.c }
-        ensures { coefficients result ≡ kept F.Field.field (row_term F.Field.field self.now.plan.sizes ends.now.low.now ends.now.high.now (A.Committed.table table.now).entries draws.now) }
-    {
-        ends.line(|point| opened_at(table, point, draws)).alone()
-    }
-
     // The term of a read: eq of the cycles, the chunk tables, and what the memory holds.
     fn read_term(&self, draws: &[F], ends: &Ends<F>) -> Polynomial<F>
         requires draws { length draws.now ≡ self.now.plan.sizes.t }
@@ -202,10 +178,10 @@ impl<'a, F: Field, A: Committed<F>, M: Listed<F>, V: Committed<F>> Prover<'a, F,
     }
 
     // A chunk table of the job.
-    fn chunk_table(&self, which: ChunkTable) -> &'a A
+    fn chunk_table(&self, which: ChunkTable) -> Chunk<'a, F, A>
         requires { ChunkOf self.now.plan.kind self.now.plan.sizes.d which }
-        ensures variables { (A.Committed.table result.now).variables ≡ self.now.plan.sizes.c + self.now.plan.sizes.t }
-        ensures entries { chunk_table self.now.memory which ≡ (A.Committed.table result.now).entries }
+        ensures sizes { result.sizes ≡ self.now.plan.sizes }
+        ensures entries { chunk_table self.now.memory which ≡ (A.Committed.table result.table.now).entries }
     {
         let sizes = self.plan.sizes;
         match (which, self.tables) {
@@ -228,8 +204,8 @@ impl<'a, F: Field, A: Committed<F>, M: Listed<F>, V: Committed<F>> Prover<'a, F,
         ensures { coefficients result ≡ kept F.Field.field (term F.Field.field self.now.plan self.now.memory ends.now.low.now ends.now.high.now stage draws.now before.now) }
     {
         match (stage, self.tables) {
-            (Stage::Bits(which), _) => self.bits_term(self.chunk_table(which), draws, ends),
-            (Stage::Row(which), _) => self.row_term(self.chunk_table(which), draws, ends),
+            (Stage::Bits(which), _) => self.chunk_table(which).bits_term(draws, ends),
+            (Stage::Row(which), _) => self.chunk_table(which).row_term(draws, ends),
             (Stage::Read, _) => self.read_term(draws, ends),
             (Stage::Write, Tables::Twist { wa, wv, .. }) => {
                 let wa = ChunkTables::new(self.plan.sizes, *wa);

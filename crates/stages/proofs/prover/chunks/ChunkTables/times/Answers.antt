@@ -5,16 +5,16 @@ use Rattle.stages.proofs.Fits.{fits_count, fits_variables, entries_at}
 use Rattle.stages.proofs.Kept.{times_is}
 use Rattle.stages.proofs.prover.chunks.ChunkTables.times.Goals as goal
 
-pub chunk_line-requires : goal.chunk_line-requires
-chunk_line-requires g c =
+pub line-requires : goal.line-requires
+line-requires g c =
     let e = g.A.Committed.table in
     let xs = c.args.self.now.tables.now in
     let s = c.args.self.now.sizes in
-    record {
-      within = omega (arith, fits_count e xs s c.args.self.now.fit);
-      table = fits_variables e xs s c.args.self.now.fit c.loop-i.i c.index-tables-i.result c.loop-i-test.true c.index-tables-i.is;
-      ends = c.requires;
-    }
+    record { within = omega (arith, fits_count e xs s c.args.self.now.fit); ends = c.requires }
+
+pub invariant_of-chunk : goal.invariant_of-chunk
+invariant_of-chunk g c =
+    record { variables = fits_variables g.A.Committed.table c.args.self.now.tables.now c.args.self.now.sizes c.args.self.now.fit c.loop-i.i c.index-tables-i.result c.loop-i-test.true c.index-tables-i.is }
 
 pub loop-i-preserved : goal.loop-i-preserved
 loop-i-preserved g c =
@@ -28,7 +28,7 @@ loop-i-preserved g c =
     let tables = map (λ m. (e m).entries) xs in
     let entries = sym (entries_at e xs i c.index-tables-i.result c.loop-i-test.true c.index-tables-i.is) in
     times_is f _ _ (times_chunks f s low high tables i (coefficients c.args.first)) _ (line_of f low high (chunk_factor f s tables i)) c.loop-i.invariant
-    (c.chunk_line.ensures ∙ ap (λ table. line_of f low high (chunk_at_point f s table i)) entries)
+    (c.line.ensures ∙ ap (λ table. line_of f low high (chunk_at_point f s table i)) entries)
     c.times-product.ensures
     ∙ sym (ap (λ n. kept f (times_chunks f s low high tables n (coefficients c.args.first))) (add-one i))
 

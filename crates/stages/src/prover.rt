@@ -96,7 +96,8 @@ impl<'a, F: Field, A: Committed<F>, M: Listed<F>, V: Committed<F>> Prover<'a, F,
         })
     }
 
-    // What the memory holds at a point of an address and a cycle.
+    // What the memory holds at a point of an address and a cycle. A point is a slice, of the challenges or of an end, whose
+    // length each taker asks for: a type that knew it would wrap every slice anew.
     fn held_at(&self, point: &[F]) -> F
         requires { length point.now ≡ point_size self.now.plan }
         ensures { result ≡ held_at F.Field.field self.now.plan self.now.memory (elements F.Field.field) point.now }

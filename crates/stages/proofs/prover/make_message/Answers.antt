@@ -1,11 +1,17 @@
-use Rattle.std.proofs.Common.{◌≡◌, ◌-◌, length, Err, sym, ap, ◌∙◌, subst, arith, rules}
+use Rattle.std.proofs.Common.{◌≡◌, ℕ, ◌-◌, length, Err, sym, ap, ◌∙◌, subst, arith, rules}
 use Rattle.fields.specs.declared.refusal.Refusal.TheVariants.{TablesDoNotFit, NothingDue}
 use Rattle.rounds.specs.Accumulators.{coefficients}
+use Rattle.stages.specs.declared.plan.Stage.{Stage}
+use Rattle.stages.specs.declared.plan.Plan.{Plan}
 use Rattle.stages.specs.Models.{plan_of, tables_fit, memory}
 use Rattle.stages.specs.Plan.{Planned, draws, rounds, challenges_before}
 use Rattle.stages.specs.Due.{point_size, message_answer, message_output}
 use Rattle.stages.proofs.Due.{Begins, round_found, no_message_found, short_output, unfit_tables, message_made}
 use Rattle.stages.proofs.prover.make_message.Goals as goal
+
+-- the draws of a stage, as the code counts them at the plan that it has
+drawn : {made p : Plan} {count : ℕ} (stage : Stage) → made ≡ p → count ≡ draws made stage → count ≡ draws p stage
+drawn stage same is = is ∙ ap (λ p. draws p stage) same
 
 pub returns-in_err-bound : goal.returns-in_err-bound
 returns-in_err-bound g c =
@@ -46,26 +52,23 @@ pub overflow_sub-start-3 : goal.overflow_sub-start-3
 overflow_sub-start-3 g c =
     let due =
     round_found c.plan-plan.ensures c.place-number.ensures.place (sym c.stage_at.ensures ∙ c.in_ok-stage.ensures.ok_part) (sym c.bound_at.ensures ∙ c.in_ok-bound.ensures.ok_part) in
-    let drawn : c.draws.result ≡ draws (plan_of c.args.sizes c.args.tables.now) c.in_ok-stage.stage =
-    c.draws.ensures ∙ ap (λ p. draws p c.in_ok-stage.stage) c.plan-plan.ensures in
-    omega (arith, due.count_is)
+    omega (arith, due.count_is, drawn c.in_ok-stage.stage c.plan-plan.ensures c.draws.ensures)
 
 pub round_polynomial-requires : goal.round_polynomial-requires
 round_polynomial-requires g c =
     let due =
     round_found c.plan-plan.ensures c.place-number.ensures.place (sym c.stage_at.ensures ∙ c.in_ok-stage.ensures.ok_part) (sym c.bound_at.ensures ∙ c.in_ok-bound.ensures.ok_part) in
-    let drawn : c.draws.result ≡ draws (plan_of c.args.sizes c.args.tables.now) c.in_ok-stage.stage =
-    c.draws.ensures ∙ ap (λ p. draws p c.in_ok-stage.stage) c.plan-plan.ensures in
     let stage = c.in_ok-stage.stage in
     let start = length c.args.challenges.now - (c.place-number.result.1 - 1) - c.draws.result in
     let (fits, plan, memory_is, challenges) = c.in_ok-prover.ensures in
     let at = sym plan in
     let count = ap length challenges in
+    let own = drawn c.in_ok-stage.stage c.plan-plan.ensures c.draws.ensures in
     record {
       planned = subst (λ p. Planned p.kind p.sizes.d stage) at due.planned_stage;
-      before = λ value. omega (arith, due.point_before value, due.count_is, ap point_size plan);
-      drawn = omega (arith, due.count_is, count, ap (λ p. draws p stage) plan);
-      left = omega (arith, due.count_is, due.within, count, ap (λ p. draws p stage) plan, ap (λ p. rounds p stage) plan);
+      before = λ value. omega (arith, due.point_before value, due.count_is, own, ap point_size plan);
+      drawn = omega (arith, due.count_is, own, count, ap (λ p. draws p stage) plan);
+      left = omega (arith, due.count_is, due.within, own, count, ap (λ p. draws p stage) plan, ap (λ p. rounds p stage) plan);
     }
 
 pub returns : goal.returns
@@ -80,12 +83,10 @@ returns g c =
     let made = c.in_ok-prover.prover in
     let due =
     round_found c.plan-plan.ensures c.place-number.ensures.place (sym c.stage_at.ensures ∙ c.in_ok-stage.ensures.ok_part) (sym c.bound_at.ensures ∙ c.in_ok-bound.ensures.ok_part) in
-    let drawn : c.draws.result ≡ draws (plan_of c.args.sizes c.args.tables.now) c.in_ok-stage.stage =
-    c.draws.ensures ∙ ap (λ p. draws p c.in_ok-stage.stage) c.plan-plan.ensures in
     let (fits, plan, memory_is, challenges) = c.in_ok-prover.ensures in
     let start : length c.args.challenges.now - (c.place-number.result.1 - 1) - c.draws.result
     ≡ challenges_before (plan_of c.args.sizes c.args.tables.now) (c.place-number.result.0 - 1) =
-    omega (arith, due.count_is) in
+    omega (arith, due.count_is, drawn c.in_ok-stage.stage c.plan-plan.ensures c.draws.ensures) in
     let begins =
     subst (λ xs. Begins f from stage q p (job c.args.tables.now) xs) challenges
     (subst (λ m. Begins f from stage q p m made.challenges) memory_is

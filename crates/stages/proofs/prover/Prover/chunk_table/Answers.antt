@@ -4,10 +4,6 @@ use Rattle.stages.specs.Memory.{chunk_at, chunk_table}
 use Rattle.stages.specs.Proving.{Proving}
 use Rattle.stages.proofs.prover.Prover.chunk_table.Goals as goal
 
-pub returns-in-Ra-default-clause-entries : goal.returns-in-Ra-default-clause-entries
-returns-in-Ra-default-clause-entries g c =
-    ap (chunk_table c.args.self.now.memory) c.in-Ra-default.is-0 ∙ ap (λ tables. chunk_at tables c.in-Ra-default.number) c.ra.ensures.entries ∙ c.numbered.ensures.entries
-
 pub returns-in-Wa-Twist-clause-entries : goal.returns-in-Wa-Twist-clause-entries
 returns-in-Wa-Twist-clause-entries g c =
     let job = memory g.A.Committed.table g.M.Committed.table g.V.Committed.table in

@@ -16,15 +16,11 @@ use Rattle.stages.specs.Plan.{Planned, stage_at, draws, bounds, rounds, bound_at
 use Rattle.stages.specs.Places.{round_of, place}
 use Rattle.stages.specs.Memory.{Memory}
 use Rattle.stages.specs.Messages.{message}
-use Rattle.stages.specs.Terms.{corner_term, poly_sum, TermsAddUp}
+use Rattle.stages.specs.Terms.{corner_term, poly_sum}
 use Rattle.stages.specs.Due.{point_size, message_from, message_at, message_of_place, due_message, message_answer, message_output}
 use Rattle.stages.proofs.RoundBounds.{bound_most}
 use Rattle.stages.proofs.Places.{Among, at_place}
 use Rattle.stages.proofs.Planned.{planned, point_before_value}
-
--- the terms of a round at all corners add up to its message
-message_by_terms : {F : Type 0} → TermsAddUp F
-message_by_terms = terms_add_up
 
 module _ {F : Type 0} (f : FieldOf F) where
   length-padded : (n : ℕ) (p : List F) → length (padded f n p) ≡ n
@@ -46,7 +42,7 @@ module _ {F : Type 0} (f : FieldOf F) (p : Plan) (m : Memory F) (g : Stage) (dra
       → padded f (length (message f p m g drawn before r)) q ≡ message f p m g drawn before r
   message-kept q h is =
       let few : suc bound_after ≤ most_coefficients = omega (arith, bound_most p g (length r) h) in
-      ap₂ (padded f) message-length is ∙ (padding f (suc bound_after)).on_padded most_coefficients _ few ∙ message_by_terms f p m g drawn before r h
+      ap₂ (padded f) message-length is ∙ (padding f (suc bound_after)).on_padded most_coefficients _ few ∙ terms_add_up f p m g drawn before r h
 
 module _ {F : Type 0} (f : FieldOf F) (p : Plan) (m : Memory F) (challenges : List F) (start : ℕ) (g : Stage) where
   abbrev own : ℕ
@@ -108,7 +104,7 @@ module _ (p : Plan) (count i : ℕ) (g : Stage) (among : Among p count i g) wher
   draw_without_bound : (round : ℕ) → round ≡ round_of p count g past → bound_at p g round ≡ None → round ≡ 0
   draw_without_bound zero is none = refl
   draw_without_bound (suc round) is none =
-      let some = sym (slice_get-get_or (bounds p g) round 0 (own_round round is).1) ∙ none in let z : ◌≡◌ {A = ℕ} 0 1 = cc in absurd (omega arith)
+      let some = sym (slice_get-get_or (bounds p g) round 0 (own_round round is).1) ∙ none in absurd cc
 
 module _ (p : Plan) (count : ℕ) (g : Stage) where
   round_due : (at : ℕ × ℕ) (bound : ℕ) → place p count ≡ at → stage_at p at.0 ≡ Some g → bound_at p g at.1 ≡ Some bound → RoundDue p count at g bound
@@ -118,7 +114,7 @@ module _ (p : Plan) (count : ℕ) (g : Stage) where
       found = at_place p count at g placed stage
 
       by : (round : ℕ) → at.1 ≡ round → bound_at p g round ≡ Some bound → RoundDue p count at g bound
-      by zero e bounded = let z : ◌≡◌ {A = ℕ} 0 1 = cc in absurd (omega arith)
+      by zero e bounded = absurd cc
       by (suc round) e bounded =
           let own = own_round p count (at.0 - 1) g found.0 round (sym e ∙ found.1) in
           let less : at.1 - 1 ≡ round = omega arith in
@@ -237,13 +233,13 @@ module _ {F : Type 0} (f : FieldOf F) (p : Plan) (m : Memory F) (challenges : Li
       )
 
 -- the same by what the code finds, at the plan that it has
-module _ (found p : Plan) (same : found ≡ p) where
-  pub round_found : (count : ℕ) (at : ℕ × ℕ) (g : Stage) (bound : ℕ) → at ≡ place found count → stage_at found at.0 ≡ Some g → bound_at found g at.1 ≡ Some bound
+module _ {found p : Plan} (same : found ≡ p) where
+  pub round_found : {count : ℕ} {at : ℕ × ℕ} {g : Stage} {bound : ℕ} → at ≡ place found count → stage_at found at.0 ≡ Some g → bound_at found g at.1 ≡ Some bound
       → RoundDue p count at g bound
-  round_found count at g bound placed stage bounded =
+  round_found {count} {at} {g} {bound} placed stage bounded =
       subst (λ x. RoundDue x count at g bound) same (round_due found count g at bound (sym placed) stage bounded)
 
-  pub no_message_found : {F : Type 0} (f : FieldOf F) (m : Memory F) (challenges : List F) (at : ℕ × ℕ) (g : Stage)
+  pub no_message_found : {F : Type 0} (f : FieldOf F) (m : Memory F) (challenges : List F) {at : ℕ × ℕ} {g : Stage}
       → at ≡ place found (length challenges) → stage_at found at.0 ≡ Some g → bound_at found g at.1 ≡ None → due_message f p m challenges ≡ None
-  no_message_found f m challenges at g placed stage bounded =
+  no_message_found f m challenges {at} {g} placed stage bounded =
       subst (λ x. due_message f x m challenges ≡ None) same (no_message_due f found m challenges at g (sym placed) stage bounded)

@@ -1,10 +1,9 @@
 -- Polynomials kept in seven coefficients: what is done to them is done to the polynomials that they keep.
 use Rattle.std.proofs.Common.{◌≡◌, ℕ, zero, suc, List, sym, ap, ◌∙◌, ap₂, arith}
-use Rattle.fields.specs.Fields.{FieldOf, elements}
-use Rattle.tables.specs.Formulas.{less, extension}
-use Rattle.tables.specs.Tables.{Table, entry}
+use Rattle.fields.specs.Fields.{FieldOf}
+use Rattle.tables.specs.Formulas.{less}
 use Rattle.tables.specs.declared.size.Sizes.{Sizes}
-use Rattle.rounds.specs.Polynomials.{poly_add, poly_mul, polynomials, line}
+use Rattle.rounds.specs.Polynomials.{poly_add, poly_mul, polynomials}
 use Rattle.rounds.specs.Accumulators.{most_coefficients, kept}
 use Rattle.rounds.proofs.Padding.{padding}
 use Rattle.stages.specs.Terms.{line_of, chunk_factor, times_chunks, product_term}
@@ -24,18 +23,6 @@ module _ {F : Type 0} (f : FieldOf F) where
   pub times_is : (r p P l L : List F) → p ≡ kept f P → l ≡ L → r ≡ kept f (poly_mul f p l) → r ≡ kept f (poly_mul f P L)
   times_is r p P l L e same is = is ∙ ap (λ q. kept f (poly_mul f p q)) same ∙ kept-times p P L e
 
-  -- a product with a line, by other terms for its ends
-  pub times-line_is : (r p P : List F) (a b x y : F) → p ≡ kept f P → a ≡ x → b ≡ y → r ≡ kept f (poly_mul f p (line f a b)) → r ≡ kept f (poly_mul f P (line f x y))
-  times-line_is r p P a b x y e h k is = times_is r p P (line f a b) (line f x y) e (ap₂ (line f) h k) is
-
-  pub line_is : (r : List F) (a b x y : F) → a ≡ x → b ≡ y → r ≡ kept f (line f a b) → r ≡ kept f (line f x y)
-  line_is r a b x y h k is = is ∙ ap₂ (λ u v. kept f (line f u v)) h k
-
-  -- a table opened at a point, by other terms for its variables and the point
-  pub opened_is : (m : Table F) (n : ℕ) (at point : List F) (v : F) → m.variables ≡ n → at ≡ point
-      → v ≡ extension f (elements f) m.variables (entry f m.entries) at → v ≡ extension f (elements f) n (entry f m.entries) point
-  opened_is m n at point v e h is = is ∙ ap₂ (λ n p. extension f (elements f) n (entry f m.entries) p) e h
-
   -- the chunk tables' lines, times what keeps a polynomial
   pub kept-chunks : (s : Sizes) (low high : List F) (tables : List (List F)) (n : ℕ) (p P : List F) → p ≡ kept f P
       → kept f (times_chunks f s low high tables n p) ≡ kept f (times_chunks f s low high tables n P)
@@ -46,9 +33,9 @@ module _ {F : Type 0} (f : FieldOf F) where
       let Q = times_chunks f s low high tables n P in
       (padding f most_coefficients).on_times q l ∙ kept-times (kept f q) Q l (kept-chunks s low high tables n p P e)
 
-  -- a product of a line, the chunk tables and another line, by other terms for the lines
-  pub product_is : (s : Sizes) (low high : List F) (tables : List (List F)) (r q p P : List F) (a b x y : F) → p ≡ kept f P
-      → q ≡ kept f (times_chunks f s low high tables s.d p) → a ≡ x → b ≡ y → r ≡ kept f (poly_mul f q (line f a b))
-      → r ≡ kept f (product_term f s low high tables P (line f x y))
-  product_is s low high tables r q p P a b x y e chunks h k is =
-      times-line_is r q (times_chunks f s low high tables s.d P) a b x y (chunks ∙ kept-chunks s low high tables s.d p P e) h k is
+  -- a product of a polynomial, the chunk tables and another line, by other terms for both
+  pub product_is : (s : Sizes) (low high : List F) (tables : List (List F)) (r q p P l L : List F) → p ≡ kept f P
+      → q ≡ kept f (times_chunks f s low high tables s.d p) → l ≡ L → r ≡ kept f (poly_mul f q l)
+      → r ≡ kept f (product_term f s low high tables P L)
+  product_is s low high tables r q p P l L e chunks same is =
+      times_is r q (times_chunks f s low high tables s.d P) l L (chunks ∙ kept-chunks s low high tables s.d p P e) same is

@@ -7,4 +7,5 @@ pub mod Formulas
 pub mod Messages
 pub mod Terms
 pub mod Due
+pub mod Proving
 pub mod Examples

@@ -1,29 +1,32 @@
 // The proving end: the message of a round and the end value of a stage, as they are due at the challenges so far.
-ghost use Rattle.std.specs.Prelude.{◌≡◌, ◌+◌, ◌-◌, ◌*◌, ◌^◌, ◌<◌, ◌≤◌, true, false, ◌++◌, map, length, drop, MatchResult};
+ghost use Rattle.std.specs.Prelude.{◌≡◌, ◌+◌, ◌-◌, ◌*◌, ◌^◌, ◌<◌, ◌≤◌, true, false, ◌++◌, map, length, MatchResult};
 ghost use Rattle.fields.specs.Fields.{elements};
 ghost use Rattle.tables.specs.Formulas.{eq, lt, extension};
 ghost use Rattle.tables.specs.Sizes.{k};
 ghost use Rattle.tables.specs.Tables.{entry};
 ghost use Rattle.rounds.specs.Accumulators.{coefficients, kept};
-ghost use Rattle.rounds.specs.Polynomials.{padded, line as the_line};
+ghost use Rattle.rounds.specs.Polynomials.{padded};
 ghost use Rattle.stages.specs.Formulas.{cycle_of, held_at};
-ghost use Rattle.stages.specs.Models.{chunks_fit, kind_of, plan_of, tables_fit, memory};
-ghost use Rattle.stages.specs.Terms.{chunk_at_point, times_chunks, bits_term, row_term, value_term, line_of, product_term, written_factor, term, RoundOf, corner_term, poly_sum};
+ghost use Rattle.stages.specs.Models.{kind_of, plan_of, tables_fit, memory};
+ghost use Rattle.stages.specs.Terms.{value_term, line_of, product_term, written_factor, term, RoundOf, corner_term, poly_sum};
 ghost use Rattle.stages.specs.Plan.{ChunkOf, Planned, draws as draw_count, rounds};
-ghost use Rattle.stages.specs.Memory.{chunk_at, chunk_table};
+ghost use Rattle.stages.specs.Memory.{chunk_table};
 ghost use Rattle.stages.specs.Due.{point_size, asks, end_value_due, message_from, due_message, message_answer, message_output, end_value_answer};
 
+mod chunks;
 mod line;
 mod point;
 
 use crate::increments::value_of;
 use crate::memory::{Tables, tables_fit};
 use crate::plan::{ChunkTable, Kind, Plan, Stage};
-use crate::prover::line::{Ends, Line};
+use crate::prover::chunks::{Chunk, ChunkTables};
+use crate::prover::line::Ends;
 use crate::prover::point::Point;
 use fields::field::Field;
 use fields::refusal::Refusal;
 use rounds::polynomial::Polynomial;
+use std::marker::Model;
 use tables::formulas::{eq_at, lt_at};
 use tables::size::Sizes;
 use tables::table::{Committed, Listed};
@@ -36,7 +39,7 @@ fn opened_at<F: Field, C: Committed<F>>(table: &C, head: &[F], tail: &[F]) -> F
     table.open(head, tail).unwrap()
 }
 
-// eq of points of one length.
+// eq of points of one length, which eq_at never refuses: a closure that calls this has no unwrap to prove.
 fn eq_of_points<F: Field>(x: &[F], y: &[F]) -> F
     requires { length x.now ≡ length y.now }
     ensures { result ≡ eq F.Field.field (elements F.Field.field) x.now y.now }
@@ -44,22 +47,12 @@ fn eq_of_points<F: Field>(x: &[F], y: &[F]) -> F
     eq_at(x, y).unwrap()
 }
 
-// LT of points of one length.
+// LT of points of one length, which lt_at never refuses.
 fn lt_of_points<F: Field>(x: &[F], y: &[F]) -> F
     requires { length x.now ≡ length y.now }
     ensures { result ≡ lt F.Field.field (elements F.Field.field) x.now y.now }
 {
     lt_at(x, y).unwrap()
-}
-
-// The chunk table of a number, from 1.
-fn numbered<'a, F: Field, A: Committed<F>>(sizes: Sizes, tables: &'a [A], number: usize) -> &'a A
-    requires chunks { chunks_fit sizes (map A.Committed.table tables.now) ≡ true }
-    requires number { (1 ≤ number) × (number ≤ sizes.d) }
-    ensures variables { (A.Committed.table result.now).variables ≡ sizes.c + sizes.t }
-    ensures entries { chunk_at (map (λ m. (A.Committed.table m).entries) tables.now) number ≡ (A.Committed.table result.now).entries }
-{
-    &tables[number - 1]
 }
 
 // What the proving end has: tables that fit the sizes of the plan, and the challenges so far.
@@ -68,8 +61,20 @@ struct Prover<'a, F: Field, A: Committed<F>, M: Listed<F>, V: Committed<F>> {
     plan: Plan,
     tables: &'a Tables<'a, A, M, V>,
     challenges: &'a [F],
-    ghost kind: { plan.kind ≡ kind_of tables.now },
-    ghost fit: { tables_fit A.Committed.table M.Committed.table V.Committed.table plan.sizes tables.now ≡ true },
+}
+
+impl<'a, F: Field, A: Committed<F>, M: Listed<F>, V: Committed<F>> Model
+    for Prover<'a, F, A, M, V> {
+    ghost use Rattle.std.specs.Prelude.{◌≡◌, true};
+    ghost use Rattle.stages.specs.Proving.{Proving};
+
+    ghost Value = { Proving F };
+
+    ghost use Rattle.stages.specs.Models.{kind_of, tables_fit, memory};
+
+    ghost view = { λ p. record { plan = p.plan; memory = memory A.Committed.table M.Committed.table V.Committed.table p.tables.now; challenges = p.challenges.now } };
+
+    ghost invariant = { λ p. (p.plan.kind ≡ kind_of p.tables.now) × (tables_fit A.Committed.table M.Committed.table V.Committed.table p.plan.sizes p.tables.now ≡ true) };
 }
 
 impl<'a, F: Field, A: Committed<F>, M: Listed<F>, V: Committed<F>> Prover<'a, F, A, M, V> {
@@ -79,7 +84,7 @@ impl<'a, F: Field, A: Committed<F>, M: Listed<F>, V: Committed<F>> Prover<'a, F,
         tables: &'a Tables<'a, A, M, V>,
         challenges: &'a [F],
     ) -> Result<Prover<'a, F, A, M, V>, Refusal>
-        ensures { MatchResult result (λ made. (tables_fit A.Committed.table M.Committed.table V.Committed.table sizes tables.now ≡ true) × (made.plan ≡ plan_of sizes tables.now) × (made.tables.now ≡ tables.now) × (made.challenges.now ≡ challenges.now)) (λ refusal. (tables_fit A.Committed.table M.Committed.table V.Committed.table sizes tables.now ≡ false) × (refusal ≡ Refusal.TablesDoNotFit)) }
+        ensures { MatchResult result (λ made. (tables_fit A.Committed.table M.Committed.table V.Committed.table sizes tables.now ≡ true) × (made.plan ≡ plan_of sizes tables.now) × (made.memory ≡ memory A.Committed.table M.Committed.table V.Committed.table tables.now) × (made.challenges ≡ challenges.now)) (λ refusal. (tables_fit A.Committed.table M.Committed.table V.Committed.table sizes tables.now ≡ false) × (refusal ≡ Refusal.TablesDoNotFit)) }
     {
         if !tables_fit(sizes, tables) {
             return Err(Refusal::TablesDoNotFit);
@@ -91,10 +96,11 @@ impl<'a, F: Field, A: Committed<F>, M: Listed<F>, V: Committed<F>> Prover<'a, F,
         })
     }
 
-    // What the memory holds at a point of an address and a cycle.
+    // What the memory holds at a point of an address and a cycle. A point is a slice, of the challenges or of an end, whose
+    // length each taker asks for: a type that knew it would wrap every slice anew.
     fn held_at(&self, point: &[F]) -> F
         requires { length point.now ≡ point_size self.now.plan }
-        ensures { result ≡ held_at F.Field.field self.now.plan (memory A.Committed.table M.Committed.table V.Committed.table self.now.tables.now) (elements F.Field.field) point.now }
+        ensures { result ≡ held_at F.Field.field self.now.plan self.now.memory (elements F.Field.field) point.now }
     {
         let k = self.plan.sizes.address_bits();
         let (address, cycle) = point.split_at(k);
@@ -107,98 +113,43 @@ impl<'a, F: Field, A: Committed<F>, M: Listed<F>, V: Committed<F>> Prover<'a, F,
     // What is written in the cycle of a point, less what the memory holds at the point.
     fn written_at(&self, wv: &V, point: &[F]) -> F
         requires table { (V.Committed.table wv.now).variables ≡ self.now.plan.sizes.t }
-        requires entries { (V.Committed.table wv.now).entries ≡ (memory A.Committed.table M.Committed.table V.Committed.table self.now.tables.now).wv }
+        requires entries { (V.Committed.table wv.now).entries ≡ self.now.memory.wv }
         requires point { length point.now ≡ point_size self.now.plan }
-        ensures { result ≡ written_factor F.Field.field self.now.plan (memory A.Committed.table M.Committed.table V.Committed.table self.now.tables.now) point.now }
+        ensures { result ≡ written_factor F.Field.field self.now.plan self.now.memory point.now }
     {
         let k = self.plan.sizes.address_bits();
         opened_at(wv, &point[k..], &[]).minus(self.held_at(point))
     }
 
-    // A chunk table at its chunk of the point's address and at the point's cycle; the first chunk has the number 0.
-    fn chunk_value(&self, table: &A, i: usize, point: &[F]) -> F
-        requires within { i < self.now.plan.sizes.d }
-        requires table { (A.Committed.table table.now).variables ≡ self.now.plan.sizes.c + self.now.plan.sizes.t }
-        requires point { length point.now ≡ point_size self.now.plan }
-        ensures { result ≡ chunk_at_point F.Field.field self.now.plan.sizes (A.Committed.table table.now).entries i point.now }
-    {
-        let c = self.plan.sizes.chunk_bits();
-        let k = self.plan.sizes.address_bits();
-        let (address, cycle) = point.split_at(k);
-        let from = i * c;
-        opened_at(table, &address[from..from + c], cycle)
-    }
-
-    // The line of a chunk table at its chunk of the address and at the cycle.
-    fn chunk_line(&self, table: &A, i: usize, ends: &Ends<F>) -> Line<F>
-        requires within { i < self.now.plan.sizes.d }
-        requires table { (A.Committed.table table.now).variables ≡ self.now.plan.sizes.c + self.now.plan.sizes.t }
-        requires ends { length ends.now.low.now ≡ point_size self.now.plan }
-        ensures { the_line F.Field.field result.low result.high ≡ line_of F.Field.field ends.now.low.now ends.now.high.now (chunk_at_point F.Field.field self.now.plan.sizes (A.Committed.table table.now).entries i) }
-    {
-        ends.line(|point| self.chunk_value(table, i, point))
-    }
-
-    // A polynomial times the lines of all chunk tables.
-    fn times_chunks(&self, tables: &[A], ends: &Ends<F>, first: Polynomial<F>) -> Polynomial<F>
-        requires fit { chunks_fit self.now.plan.sizes (map A.Committed.table tables.now) ≡ true }
-        requires ends { length ends.now.low.now ≡ point_size self.now.plan }
-        ensures { coefficients result ≡ kept F.Field.field (times_chunks F.Field.field self.now.plan.sizes ends.now.low.now ends.now.high.now (map (λ m. (A.Committed.table m).entries) tables.now) self.now.plan.sizes.d (coefficients first)) }
-    {
-        let mut product = first;
-        for (i, table) in tables.iter().enumerate() {
-            product = self.chunk_line(table, i, ends).times(product);
-        }
-        product
-    }
-
-    // eq times the square of an entry less the entry.
-    fn bits_term(&self, table: &A, draws: &[F], ends: &Ends<F>) -> Polynomial<F>
-        requires table { (A.Committed.table table.now).variables ≡ self.now.plan.sizes.c + self.now.plan.sizes.t }
-        requires draws { length draws.now ≡ self.now.plan.sizes.c + self.now.plan.sizes.t }
-        requires ends { length ends.now.low.now ≡ self.now.plan.sizes.c + self.now.plan.sizes.t }
-        ensures { coefficients result ≡ kept F.Field.field (bits_term F.Field.field self.now.plan.sizes ends.now.low.now ends.now.high.now (A.Committed.table table.now).entries draws.now) }
-    {
-        let entry = ends.line(|point| opened_at(table, point, &[]));
-        let weight = ends.line(|point| eq_of_points(draws, point)).alone();
-        let weighted = entry.times(weight);
-        entry.times(weighted).minus(weighted)
-    }
-
-    // The entry at the draws' cycle.
-    fn row_term(&self, table: &A, draws: &[F], ends: &Ends<F>) -> Polynomial<F>
-        requires table { (A.Committed.table table.now).variables ≡ self.now.plan.sizes.c + self.now.plan.sizes.t }
-        requires draws { length draws.now ≡ self.now.plan.sizes.t }
-        requires ends { length ends.now.low.now ≡ self.now.plan.sizes.c }
-        ensures { coefficients result ≡ kept F.Field.field (row_term F.Field.field self.now.plan.sizes ends.now.low.now ends.now.high.now (A.Committed.table table.now).entries draws.now) }
-    {
-        ends.line(|point| opened_at(table, point, draws)).alone()
-    }
-
     // The term of a read: eq of the cycles, the chunk tables, and what the memory holds.
-    fn read_term(&self, ra: &[A], draws: &[F], ends: &Ends<F>) -> Polynomial<F>
-        requires chunks { chunks_fit self.now.plan.sizes (map A.Committed.table ra.now) ≡ true }
+    fn read_term(&self, draws: &[F], ends: &Ends<F>) -> Polynomial<F>
         requires draws { length draws.now ≡ self.now.plan.sizes.t }
         requires ends { length ends.now.low.now ≡ point_size self.now.plan }
-        ensures { coefficients result ≡ kept F.Field.field (product_term F.Field.field self.now.plan.sizes ends.now.low.now ends.now.high.now (map (λ m. (A.Committed.table m).entries) ra.now) (line_of F.Field.field ends.now.low.now ends.now.high.now (λ point. eq F.Field.field (elements F.Field.field) draws.now (cycle_of F.Field.field self.now.plan.sizes (elements F.Field.field) point))) (line_of F.Field.field ends.now.low.now ends.now.high.now (held_at F.Field.field self.now.plan (memory A.Committed.table M.Committed.table V.Committed.table self.now.tables.now) (elements F.Field.field)))) }
+        ensures { coefficients result ≡ kept F.Field.field (product_term F.Field.field self.now.plan.sizes ends.now.low.now ends.now.high.now self.now.memory.ra (line_of F.Field.field ends.now.low.now ends.now.high.now (λ point. eq F.Field.field (elements F.Field.field) draws.now (cycle_of F.Field.field self.now.plan.sizes (elements F.Field.field) point))) (line_of F.Field.field ends.now.low.now ends.now.high.now (held_at F.Field.field self.now.plan self.now.memory (elements F.Field.field)))) }
     {
         let k = self.plan.sizes.address_bits();
         let weight = ends.line(|point| eq_of_points(draws, &point[k..])).alone();
-        let product = self.times_chunks(ra, ends, weight);
+        let product = self.ra().times(ends, weight);
         ends.line(|point| self.held_at(point)).times(product)
     }
 
     // The term of a write: eq, the chunk tables, and what is written less what the memory holds.
-    fn write_term(&self, wa: &[A], wv: &V, draws: &[F], ends: &Ends<F>) -> Polynomial<F>
-        requires chunks { chunks_fit self.now.plan.sizes (map A.Committed.table wa.now) ≡ true }
+    fn write_term(
+        &self,
+        wa: &ChunkTables<F, A>,
+        wv: &V,
+        draws: &[F],
+        ends: &Ends<F>,
+    ) -> Polynomial<F>
+        requires sizes { wa.now.sizes ≡ self.now.plan.sizes }
         requires table { (V.Committed.table wv.now).variables ≡ self.now.plan.sizes.t }
-        requires entries { (V.Committed.table wv.now).entries ≡ (memory A.Committed.table M.Committed.table V.Committed.table self.now.tables.now).wv }
+        requires entries { (V.Committed.table wv.now).entries ≡ self.now.memory.wv }
         requires draws { length draws.now ≡ point_size self.now.plan }
         requires ends { length ends.now.low.now ≡ point_size self.now.plan }
-        ensures { coefficients result ≡ kept F.Field.field (product_term F.Field.field self.now.plan.sizes ends.now.low.now ends.now.high.now (map (λ m. (A.Committed.table m).entries) wa.now) (line_of F.Field.field ends.now.low.now ends.now.high.now (eq F.Field.field (elements F.Field.field) draws.now)) (line_of F.Field.field ends.now.low.now ends.now.high.now (written_factor F.Field.field self.now.plan (memory A.Committed.table M.Committed.table V.Committed.table self.now.tables.now)))) }
+        ensures { coefficients result ≡ kept F.Field.field (product_term F.Field.field self.now.plan.sizes ends.now.low.now ends.now.high.now (map (λ m. (A.Committed.table m).entries) wa.now.tables.now) (line_of F.Field.field ends.now.low.now ends.now.high.now (eq F.Field.field (elements F.Field.field) draws.now)) (line_of F.Field.field ends.now.low.now ends.now.high.now (written_factor F.Field.field self.now.plan self.now.memory))) }
     {
         let weight = ends.line(|point| eq_of_points(draws, point)).alone();
-        let product = self.times_chunks(wa, ends, weight);
+        let product = wa.times(ends, weight);
         ends.line(|point| self.written_at(wv, point)).times(product)
     }
 
@@ -216,44 +167,51 @@ impl<'a, F: Field, A: Committed<F>, M: Listed<F>, V: Committed<F>> Prover<'a, F,
     }
 
     // The chunk tables of the reads.
-    fn ra(&self) -> &'a [A]
-        ensures chunks { chunks_fit self.now.plan.sizes (map A.Committed.table result.now) ≡ true }
-        ensures entries { (memory A.Committed.table M.Committed.table V.Committed.table self.now.tables.now).ra ≡ map (λ m. (A.Committed.table m).entries) result.now }
+    fn ra(&self) -> ChunkTables<'a, F, A>
+        ensures sizes { result.sizes ≡ self.now.plan.sizes }
+        ensures entries { self.now.memory.ra ≡ map (λ m. (A.Committed.table m).entries) result.tables.now }
     {
         match self.tables {
-            Tables::Shout { ra, .. } => *ra,
-            Tables::Twist { ra, .. } => *ra,
+            Tables::Shout { ra, .. } | Tables::Twist { ra, .. } => {
+                ChunkTables::new(self.plan.sizes, *ra)
+            }
         }
     }
 
     // A chunk table of the job.
-    fn chunk_table(&self, which: ChunkTable) -> &'a A
+    fn chunk_table(&self, which: ChunkTable) -> Chunk<'a, F, A>
         requires { ChunkOf self.now.plan.kind self.now.plan.sizes.d which }
-        ensures variables { (A.Committed.table result.now).variables ≡ self.now.plan.sizes.c + self.now.plan.sizes.t }
-        ensures entries { chunk_table (memory A.Committed.table M.Committed.table V.Committed.table self.now.tables.now) which ≡ (A.Committed.table result.now).entries }
+        ensures sizes { result.sizes ≡ self.now.plan.sizes }
+        ensures entries { chunk_table self.now.memory which ≡ (A.Committed.table result.table.now).entries }
     {
         let sizes = self.plan.sizes;
         match (which, self.tables) {
-            (ChunkTable::Ra(number), _) => numbered(sizes, self.ra(), number),
-            (ChunkTable::Wa(number), Tables::Twist { wa, .. }) => numbered(sizes, *wa, number),
+            (ChunkTable::Ra(number), _) => self.ra().numbered(number),
+            (ChunkTable::Wa(number), Tables::Twist { wa, .. }) => {
+                ChunkTables::new(sizes, *wa).numbered(number)
+            }
             // A plan of Shout has no such table.
             (ChunkTable::Wa(_), Tables::Shout { .. }) => unreachable(),
         }
     }
 
-    // The term of a stage of the plan, by the ends of the round's variable.
+    // The term of a stage of the plan, by the ends of the round's variable: a match, since each kind of stage takes
+    // other parts of the tables.
     fn term(&self, stage: Stage, draws: &[F], before: &[F], ends: &Ends<F>) -> Polynomial<F>
         requires planned { Planned self.now.plan.kind self.now.plan.sizes.d stage }
         requires draws { length draws.now ≡ draw_count self.now.plan stage }
         requires before { stage ≡ Stage.Value → length before.now ≡ point_size self.now.plan }
         requires ends { length ends.now.low.now ≡ rounds self.now.plan stage }
-        ensures { coefficients result ≡ kept F.Field.field (term F.Field.field self.now.plan (memory A.Committed.table M.Committed.table V.Committed.table self.now.tables.now) ends.now.low.now ends.now.high.now stage draws.now before.now) }
+        ensures { coefficients result ≡ kept F.Field.field (term F.Field.field self.now.plan self.now.memory ends.now.low.now ends.now.high.now stage draws.now before.now) }
     {
         match (stage, self.tables) {
-            (Stage::Bits(which), _) => self.bits_term(self.chunk_table(which), draws, ends),
-            (Stage::Row(which), _) => self.row_term(self.chunk_table(which), draws, ends),
-            (Stage::Read, _) => self.read_term(self.ra(), draws, ends),
-            (Stage::Write, Tables::Twist { wa, wv, .. }) => self.write_term(*wa, *wv, draws, ends),
+            (Stage::Bits(which), _) => self.chunk_table(which).bits_term(draws, ends),
+            (Stage::Row(which), _) => self.chunk_table(which).row_term(draws, ends),
+            (Stage::Read, _) => self.read_term(draws, ends),
+            (Stage::Write, Tables::Twist { wa, wv, .. }) => {
+                let wa = ChunkTables::new(self.plan.sizes, *wa);
+                self.write_term(&wa, *wv, draws, ends)
+            }
             (Stage::Value, Tables::Twist { inc, .. }) => self.value_term(*inc, before, ends),
             // A plan of Shout has no such stage.
             (Stage::Write | Stage::Value, Tables::Shout { .. }) => unreachable(),
@@ -264,9 +222,9 @@ impl<'a, F: Field, A: Committed<F>, M: Listed<F>, V: Committed<F>> Prover<'a, F,
     fn round_polynomial(&self, stage: Stage, start: usize) -> Polynomial<F>
         requires planned { Planned self.now.plan.kind self.now.plan.sizes.d stage }
         requires before { stage ≡ Stage.Value → point_size self.now.plan ≤ start }
-        requires drawn { start + draw_count self.now.plan stage ≤ length self.now.challenges.now }
-        requires left { length self.now.challenges.now < start + draw_count self.now.plan stage + rounds self.now.plan stage }
-        ensures { padded F.Field.field (length (message_from F.Field.field self.now.plan (memory A.Committed.table M.Committed.table V.Committed.table self.now.tables.now) self.now.challenges.now start stage)) (coefficients result) ≡ message_from F.Field.field self.now.plan (memory A.Committed.table M.Committed.table V.Committed.table self.now.tables.now) self.now.challenges.now start stage }
+        requires drawn { start + draw_count self.now.plan stage ≤ length self.now.challenges }
+        requires left { length self.now.challenges < start + draw_count self.now.plan stage + rounds self.now.plan stage }
+        ensures { padded F.Field.field (length (message_from F.Field.field self.now.plan self.now.memory self.now.challenges start stage)) (coefficients result) ≡ message_from F.Field.field self.now.plan self.now.memory self.now.challenges start stage }
     {
         let own = start + self.plan.draws(stage);
         let from = start.saturating_sub(self.plan.point_size());
@@ -296,10 +254,10 @@ struct Round<'a, F: Field, A: Committed<F>, M: Listed<F>, V: Committed<F>> {
 }
 
 impl<'a, F: Field, A: Committed<F>, M: Listed<F>, V: Committed<F>> Round<'a, F, A, M, V> {
-    // The term at corner number `index` of the variables to come.
+    // The term at corner number `index` of the variables to come. RoundOf stands here and at `sum`, and in no third place.
     fn corner_term(&self, index: usize) -> Polynomial<F>
         requires { RoundOf self.now.prover.now.plan self.now.stage self.now.draws.now self.now.before.now self.now.r.now self.now.left }
-        ensures { coefficients result ≡ kept F.Field.field (corner_term F.Field.field self.now.prover.now.plan (memory A.Committed.table M.Committed.table V.Committed.table self.now.prover.now.tables.now) self.now.stage self.now.draws.now self.now.before.now self.now.r.now self.now.left index) }
+        ensures { coefficients result ≡ kept F.Field.field (corner_term F.Field.field self.now.prover.now.plan self.now.prover.now.memory self.now.stage self.now.draws.now self.now.before.now self.now.r.now self.now.left index) }
     {
         let low = Point::new(self.r, F::zero_element(), self.left, index);
         let high = Point::new(self.r, F::one_element(), self.left, index);
@@ -313,7 +271,7 @@ impl<'a, F: Field, A: Committed<F>, M: Listed<F>, V: Committed<F>> Round<'a, F, 
     // The terms at all corners of the variables to come, added up.
     fn sum(&self) -> Polynomial<F>
         requires { RoundOf self.now.prover.now.plan self.now.stage self.now.draws.now self.now.before.now self.now.r.now self.now.left }
-        ensures { coefficients result ≡ kept F.Field.field (poly_sum F.Field.field (2 ^ self.now.left) (corner_term F.Field.field self.now.prover.now.plan (memory A.Committed.table M.Committed.table V.Committed.table self.now.prover.now.tables.now) self.now.stage self.now.draws.now self.now.before.now self.now.r.now self.now.left)) }
+        ensures { coefficients result ≡ kept F.Field.field (poly_sum F.Field.field (2 ^ self.now.left) (corner_term F.Field.field self.now.prover.now.plan self.now.prover.now.memory self.now.stage self.now.draws.now self.now.before.now self.now.r.now self.now.left)) }
     {
         let mut sum = Polynomial::zero();
         for index in 0..1 << self.left {
@@ -325,6 +283,7 @@ impl<'a, F: Field, A: Committed<F>, M: Listed<F>, V: Committed<F>> Round<'a, F, 
 
 // Writes the message that is due into the first places of the output. Refused where none is due, else where the
 // output has no room for it, else where the tables do not fit; a refused call leaves the output as it was.
+// The protocol gives the sizes and the tables apart, and the call has to find out whether they fit.
 pub fn make_message<F: Field, A: Committed<F>, M: Listed<F>, V: Committed<F>>(
     sizes: Sizes,
     tables: &Tables<A, M, V>,

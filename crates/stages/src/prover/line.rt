@@ -7,7 +7,8 @@ ghost use Rattle.rounds.specs.Polynomials.{poly_mul, line};
 use fields::field::Field;
 use rounds::polynomial::Polynomial;
 
-// Two points that differ in the round's variable alone, which is zero at the low one and one at the high one.
+// Two points that differ in the round's variable alone, which is zero at the low one and one at the high one. Each term
+// asks for a length of its own, the number of its stage's rounds, so no size stands here.
 #[derive(Drop)]
 pub(crate) struct Ends<'a, F> {
     pub(crate) low: &'a [F],
@@ -23,7 +24,7 @@ pub(crate) struct Line<F> {
 }
 
 impl<'a, F: Field> Ends<'a, F> {
-    // The line of a factor.
+    // The line of a factor: a closure's results are known at the ends alone, where it ran.
     pub(crate) fn line<G: Fn(&[F]) -> F>(&self, factor: G) -> Line<F>
         requires low { G.pre factor self.now.low }
         requires high { G.pre factor self.now.high }

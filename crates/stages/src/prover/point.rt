@@ -1,12 +1,12 @@
 // The point of a round at a corner of the variables to come.
-ghost use Rattle.std.specs.Prelude.{◌≡◌, ◌+◌, ◌*◌, ◌%◌, ◌^◌, ◌<◌, ◌≤◌, ◌∷◌, ◌++◌, length, take, slice_index_or};
+ghost use Rattle.std.specs.Prelude.{◌≡◌, ◌+◌, ◌*◌, ◌%◌, ◌<◌, ◌≤◌, ◌∷◌, ◌++◌, length, take, slice_index_or};
 ghost use Rattle.tables.specs.Limits.{most_variables};
 ghost use Rattle.tables.specs.Sums.{bit, corner};
 
 use fields::field::Field;
 use tables::size::MOST_VARIABLES;
 
-// A point of up to so many coordinates.
+// A point, in an array with room for the most coordinates: a library call allocates nothing.
 #[derive(Drop)]
 pub(crate) struct Point<F> {
     coordinates: [F; MOST_VARIABLES],
@@ -45,6 +45,7 @@ impl<F: Field> Point<F> {
         requires { length r.now + 1 + left ≤ most_variables }
         ensures { take result.size result.coordinates ≡ r.now ++ (x ∷ corner F.Field.field left index) }
     {
+        // A walk: array::from_fn promises each place only along a chain of calls, and the walk's invariant is shorter.
         let mut coordinates = [x; MOST_VARIABLES];
         for (i, place) in coordinates.iter_mut().enumerate() {
             *place = coordinate(r, x, left, index, i);

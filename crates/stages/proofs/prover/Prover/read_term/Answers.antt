@@ -1,12 +1,14 @@
-use Rattle.std.proofs.Common.{◌≡◌, ◌-◌, List, map, length, take, drop, ap, ◌∙◌, arith, rules}
+use Rattle.std.proofs.Common.{◌≡◌, ℕ, ◌+◌, ◌-◌, List, length, take, drop, sym, ap, ◌∙◌, ap₂, arith, rules}
 use Rattle.fields.specs.Fields.{elements}
 use Rattle.tables.specs.Formulas.{eq}
 use Rattle.tables.specs.Sizes.{k}
-use Rattle.stages.specs.Formulas.{cycle_of, held_at}
-use Rattle.stages.specs.Models.{memory}
-use Rattle.stages.specs.Terms.{line_of}
+use Rattle.rounds.specs.Accumulators.{coefficients, kept}
+use Rattle.rounds.specs.Polynomials.{line}
+use Rattle.stages.specs.Formulas.{held_at}
+use Rattle.stages.specs.Proving.{Proving}
+use Rattle.stages.specs.Terms.{line_of, times_chunks}
 use Rattle.stages.proofs.Coordinates.{back_part_from}
-use Rattle.stages.proofs.Kept.{line_is, product_is}
+use Rattle.stages.proofs.Kept.{product_is}
 use Rattle.stages.proofs.prover.Prover.read_term.Goals as goal
 
 pub returns : goal.returns
@@ -15,13 +17,13 @@ returns g c =
     let s = c.args.self.now.plan.sizes in
     let low = c.args.ends.now.low.now in
     let high = c.args.ends.now.high.now in
-    let weight : List g.row.F.Denot → g.row.F.Denot = λ point. eq f (elements f) c.args.draws.now (cycle_of f s (elements f) point) in
-    let weight_low : c.line.result.low ≡ eq g.F.Field.field (elements g.F.Field.field) c.args.draws.now (take (length c.args.ends.now.low.now - c.address_bits-k.result) (drop c.address_bits-k.result c.args.ends.now.low.now)) = search rules in
-    let weight_high : c.line.result.high ≡ eq g.F.Field.field (elements g.F.Field.field) c.args.draws.now (take (length c.args.ends.now.high.now - c.address_bits-k.result) (drop c.address_bits-k.result c.args.ends.now.high.now)) = search rules in
-    let held_low : c.line-2.result.low ≡ held_at g.F.Field.field c.args.self.now.plan (memory g.A.Committed.table g.M.Committed.table g.V.Committed.table c.args.self.now.tables.now) (elements g.F.Field.field) c.args.ends.now.low.now = search rules in
-    let held_high : c.line-2.result.high ≡ held_at g.F.Field.field c.args.self.now.plan (memory g.A.Committed.table g.M.Committed.table g.V.Committed.table c.args.self.now.tables.now) (elements g.F.Field.field) c.args.ends.now.high.now = search rules in
-    let first = line_is f _ _ _ (weight low) (weight high) (weight_low ∙ ap (eq f (elements f) c.args.draws.now) (back_part_from low c.address_bits-k.result (k s) c.address_bits-k.ensures.value (omega arith)))
-    (weight_high ∙ ap (eq f (elements f) c.args.draws.now) (back_part_from high c.address_bits-k.result (k s) c.address_bits-k.ensures.value (omega arith)))
-    c.alone-weight.ensures in
-    product_is f s low high (map (λ m. (g.A.Committed.table m).entries) c.args.ra.now) _ _ _ (line_of f low high weight) _ _ _ _ first c.times_chunks-product.ensures
-    held_low held_high c.times.ensures
+    let size : Proving g.row.F.Denot → ℕ = λ v. k v.plan.sizes in
+    let bits = c.address_bits-k.ensures.value ∙ ap size c.self.view_is in
+    let cycle : (point : List g.row.F.Denot) → length point ≡ k s + s.t → take (length point - c.address_bits-k.result) (drop c.address_bits-k.result point) ≡ drop (k s) point =
+    λ point h. back_part_from point c.address_bits-k.result (k s) bits (omega (arith, bits)) in
+    let weight : List g.row.F.Denot → g.row.F.Denot = λ point. eq f (elements f) c.args.draws.now point in
+    let ends : line g.F.Field.field c.line.result.low c.line.result.high ≡ line g.F.Field.field (eq g.F.Field.field (elements g.F.Field.field) c.args.draws.now (take (length c.args.ends.now.low.now - c.address_bits-k.result) (drop c.address_bits-k.result c.args.ends.now.low.now))) (eq g.F.Field.field (elements g.F.Field.field) c.args.draws.now (take (length c.args.ends.now.high.now - c.address_bits-k.result) (drop c.address_bits-k.result c.args.ends.now.high.now))) = search rules in
+    let held : line g.F.Field.field c.line-2.result.low c.line-2.result.high ≡ line_of g.F.Field.field c.args.ends.now.low.now c.args.ends.now.high.now (held_at g.F.Field.field c.args.self.now.plan c.args.self.now.memory (elements g.F.Field.field)) = search rules in
+    let first = c.alone-weight.ensures ∙ ap (kept f) (ends ∙ ap₂ (λ a b. line f (weight a) (weight b)) (cycle low c.requires.ends) (cycle high (omega (arith, c.requires.ends)))) in
+    let product = c.times-product.ensures ∙ ap₂ (λ s tables. kept f (times_chunks f s low high tables s.d (coefficients c.alone-weight.result))) c.ra.ensures.sizes (sym c.ra.ensures.entries) in
+    product_is f s low high c.args.self.now.memory.ra _ _ _ _ _ _ first product held c.times.ensures

@@ -1,22 +1,19 @@
-use Rattle.std.proofs.Common.{◌≡◌, map, rules}
+use Rattle.std.proofs.Common.{◌≡◌, map, ap, ◌∙◌, rules}
 use Rattle.fields.specs.Fields.{elements}
 use Rattle.tables.specs.Formulas.{eq}
-use Rattle.stages.specs.Models.{memory}
-use Rattle.stages.specs.Terms.{line_of, written_factor}
-use Rattle.stages.proofs.Kept.{line_is, product_is}
+use Rattle.rounds.specs.Accumulators.{coefficients, kept}
+use Rattle.rounds.specs.Polynomials.{line}
+use Rattle.stages.specs.Terms.{line_of, times_chunks, written_factor}
+use Rattle.stages.proofs.Kept.{product_is}
 use Rattle.stages.proofs.prover.Prover.write_term.Goals as goal
 
 pub returns : goal.returns
 returns g c =
     let f = g.F.Field.field in
-    let s = c.args.self.now.plan.sizes in
+    let weight : line g.F.Field.field c.line.result.low c.line.result.high ≡ line_of g.F.Field.field c.args.ends.now.low.now c.args.ends.now.high.now (eq g.F.Field.field (elements g.F.Field.field) c.args.draws.now) = search rules in
+    let written : line g.F.Field.field c.line-2.result.low c.line-2.result.high ≡ line_of g.F.Field.field c.args.ends.now.low.now c.args.ends.now.high.now (written_factor g.F.Field.field c.args.self.now.plan c.args.self.now.memory) = search rules in
     let low = c.args.ends.now.low.now in
     let high = c.args.ends.now.high.now in
-    let weight = eq f (elements f) c.args.draws.now in
-    let weight_low : c.line.result.low ≡ eq g.F.Field.field (elements g.F.Field.field) c.args.draws.now c.args.ends.now.low.now = search rules in
-    let weight_high : c.line.result.high ≡ eq g.F.Field.field (elements g.F.Field.field) c.args.draws.now c.args.ends.now.high.now = search rules in
-    let written_low : c.line-2.result.low ≡ written_factor g.F.Field.field c.args.self.now.plan (memory g.A.Committed.table g.M.Committed.table g.V.Committed.table c.args.self.now.tables.now) c.args.ends.now.low.now = search rules in
-    let written_high : c.line-2.result.high ≡ written_factor g.F.Field.field c.args.self.now.plan (memory g.A.Committed.table g.M.Committed.table g.V.Committed.table c.args.self.now.tables.now) c.args.ends.now.high.now = search rules in
-    let first = line_is f _ _ _ (weight low) (weight high) weight_low weight_high c.alone-weight.ensures in
-    product_is f s low high (map (λ m. (g.A.Committed.table m).entries) c.args.wa.now) _ _ _ (line_of f low high weight) _ _ _ _ first c.times_chunks-product.ensures
-    written_low written_high c.times.ensures
+    let tables = map (λ m. (g.A.Committed.table m).entries) c.args.wa.now.tables.now in
+    let product = c.times-product.ensures ∙ ap (λ s. kept f (times_chunks f s low high tables s.d (coefficients c.alone-weight.result))) c.requires.sizes in
+    product_is f c.args.self.now.plan.sizes low high tables _ _ _ _ _ _ (c.alone-weight.ensures ∙ ap (kept f) weight) product written c.times.ensures

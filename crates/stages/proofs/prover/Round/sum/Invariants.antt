@@ -1,6 +1,5 @@
 use Rattle.std.proofs.Common.{◌≡◌}
 use Rattle.rounds.specs.Accumulators.{coefficients, kept}
-use Rattle.stages.specs.Models.{memory}
 use Rattle.stages.specs.Terms.{corner_term, poly_sum}
 use Rattle.stages.proofs.prover.Round.sum.Given as goal
 
@@ -11,4 +10,4 @@ invariant-loop-index g l =
     let job = l.self.prover.now in
     coefficients l.sum
     ≡ kept f (poly_sum f l.index
-    (corner_term f job.plan (memory g.A.Committed.table g.M.Committed.table g.V.Committed.table job.tables.now) l.self.stage l.self.draws.now l.self.before.now l.self.r.now l.self.left))
+    (corner_term f job.plan job.memory l.self.stage l.self.draws.now l.self.before.now l.self.r.now l.self.left))

@@ -178,7 +178,7 @@ impl Plan {
     }
 }
 
-// Stages of a chunk table come in pairs, bits first.
+// Stages of a chunk table come in pairs, bits first: a plan orders them by the parity of the number.
 fn chunk_stage(index: usize, table: ChunkTable) -> Stage
     ensures { result ≡ (if nat_eq (index % 2) 0 then Stage.Bits table else Stage.Row table) }
 {
@@ -189,14 +189,12 @@ fn chunk_stage(index: usize, table: ChunkTable) -> Stage
     }
 }
 
-// The stages of Twist after those of the chunk tables, from 0.
+// The stages of Twist after those of the chunk tables.
+const LAST_STAGES: [Stage; 4] = [Stage::Read, Stage::Value, Stage::Write, Stage::Value];
+
+// The one with an index.
 fn last_stage(index: usize) -> Option<Stage>
     ensures { result ≡ slice_get memory_stages index }
 {
-    match index {
-        0 => Some(Stage::Read),
-        1 | 3 => Some(Stage::Value),
-        2 => Some(Stage::Write),
-        _ => None,
-    }
+    LAST_STAGES.get(index).copied()
 }

@@ -28,7 +28,7 @@ fn increment_at<F: Field, M: Listed<F>>(inc: &M, index: usize) -> F
 }
 
 // The sums over the `count` increments from `start` on, by halves of the cycles.
-// Increments are read by entry, and are no slice that would carry its length: the count goes along.
+// The count is halved at each turn: increments are read by entry, and are no slice that would carry its length.
 fn cell_sums<F: Field, M: Listed<F>>(
     inc: &M,
     start: usize,

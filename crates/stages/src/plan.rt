@@ -224,7 +224,7 @@ fn chunk_stage(index: usize, table: ChunkTable) -> Stage
 // The stages of Twist after those of the chunk tables.
 const LAST_STAGES: [Stage; 4] = [Stage::Read, Stage::Value, Stage::Write, Stage::Value];
 
-// The one with an index.
+// The one of these with an index, from 0.
 fn last_stage(index: usize) -> Option<Stage>
     ensures { result ≡ slice_get memory_stages index }
 {

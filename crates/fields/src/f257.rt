@@ -7,6 +7,7 @@ use crate::f257::powers::powers;
 use crate::residue::Residue;
 use crate::residue::arithmetic::ModuloPrime;
 
+// Two constant tables, each the other turned round: without one of them a product would have to search.
 mod exponents;
 mod powers;
 

@@ -22,7 +22,7 @@ pub trait Field: Copy + Eq {
 
     ghost ONE: { Self };
 
-    // The three constants as calls, with their promises.
+    // The three constants as calls: an answer that cites a call's promise is shorter than one that cites a law.
     fn field_order() -> u64
         ensures { result ≡ field.order }
     {
@@ -42,7 +42,7 @@ pub trait Field: Copy + Eq {
     }
 
     // The element that means `number`, which has to be below the order.
-    // A method, and no TryFrom: that one promises a relation of its own, which a law would have to tie to the field.
+    // This and `to_number` are methods, and no TryFrom and From: those promise relations of their own, which laws would have to tie to the field.
     fn from_number(number: u64) -> Result<Self, Refusal>
         ensures { result ≡ element_for field number };
 

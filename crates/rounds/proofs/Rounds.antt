@@ -6,6 +6,7 @@ use Rattle.fields.specs.Fields.{FieldOf, elements}
 use Rattle.tables.specs.Formulas.{cube_sum}
 use Rattle.tables.proofs.Cube.{sum_flat}
 use Rattle.rounds.specs.Polynomials.{Degree, Root, X, value}
+use Rattle.rounds.specs.Readings.{values}
 use Rattle.rounds.specs.Summands.{Summand, round_point, Agrees, sum_after, round_polynomial, Bounded, published, round_gap}
 use Rattle.rounds.specs.Rounds.{SumTest, RoundSums, ClaimPasses}
 use Rattle.rounds.proofs.Values.{value-X, value-padded}
@@ -13,13 +14,16 @@ use Rattle.rounds.proofs.Readings.{at_point, on_cube_sum, on_consts}
 use Rattle.rounds.proofs.Degrees.{degree_less, degree_cube_sum}
 use Rattle.rounds.proofs.Zeros.{element-zero_or_not, zero_or_not, root_of_less, same-values}
 
--- the point of a round, evaluated at x
-point_value : {F : Type 0} (f : FieldOf F) (r : List F) (x : F) (b : List F) → map (λ p. value f p x) (round_point f r b) ≡ (r ++ (x ∷ [])) ++ b
-point_value f r x b =
-    let consts : (b : List _) → map (λ p. value f p x) (map (λ a. a ∷ []) b) ≡ b = λ b. on_consts f (at_point f x) b ∙ map-id b in
-    map-append (λ p. value f p x) (map (λ a. a ∷ []) r) (X f ∷ map (λ a. a ∷ []) b)
-    ∙ ap₂ ◌++◌ (consts r) (ap₂ ◌∷◌ (value-X f x) (consts b))
-    ∙ sym (append_assoc r (x ∷ []) b)
+module _ {F : Type 0} (f : FieldOf F) where
+  -- a point of constants, evaluated at x
+  pub consts-value : (xs : List F) (x : F) → values f x (map (λ a. a ∷ []) xs) ≡ xs
+  consts-value xs x = on_consts f (at_point f x) xs ∙ map-id xs
+
+  -- the point of a round, evaluated at x
+  pub point_value : (r b : List F) (x : F) → values f x (round_point f r b) ≡ r ++ (x ∷ b)
+  point_value r b x =
+      map-append (λ p. value f p x) (map (λ a. a ∷ []) r) (X f ∷ map (λ a. a ∷ []) b)
+      ∙ ap₂ ◌++◌ (consts-value r x) (ap₂ ◌∷◌ (value-X f x) (consts-value b x))
 
 module _ {F : Type 0} (f : FieldOf F) (s : Summand F) (agrees : Agrees f s) (r : List F) (left : ℕ) where
   abbrev p : List F
@@ -31,7 +35,7 @@ module _ {F : Type 0} (f : FieldOf F) (s : Summand F) (agrees : Agrees f s) (r :
   at_challenge : (x : F) → value f p x ≡ later x
   at_challenge x =
       on_cube_sum f (at_point f x) left (λ i b. s.polynomial_at (round_point f r b))
-      ∙ ap (cube_sum f (elements f) left) (fun_ext λ i. fun_ext λ b. agrees (round_point f r b) x ∙ ap s.element_at (point_value f r x b))
+      ∙ ap (cube_sum f (elements f) left) (fun_ext λ i. fun_ext λ b. agrees (round_point f r b) x ∙ ap s.element_at (point_value f r b x ∙ sym (append_assoc r (x ∷ []) b)))
 
   at_zero_and_one : SumTest f p (sum_after f s r (suc left))
   at_zero_and_one = ap₂ f.add (half f.zero) (half f.one)

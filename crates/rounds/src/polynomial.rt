@@ -131,6 +131,7 @@ impl<F: Field> Polynomial<F> {
     }
 
     // Writes the first `count` coefficients into the first places of the output.
+    // The count stands beside the output: the answer to an output that is too short for it is promised.
     pub fn write(self, count: usize, output: &mut [F]) -> Result<(), Refusal>
         ensures answer { result ≡ write_answer F.Field.field count output.old }
         ensures places { output.new ≡ written F.Field.field count (coefficients self) output.old }

@@ -157,20 +157,21 @@ mod tests {
         Ok(())
     }
 
-    #[test]
-    fn malformed_lines_are_refused(rt: HostRuntime) -> Result<(), Fail> {
-        for line in MALFORMED {
-            says(&rt, rt.alloc(), line, "refused\t10\n")?;
+    fn all_say(rt: &impl Abort, heap: Global, lines: &[&[u8]], expected: &str) -> Result<(), Fail> {
+        for line in lines {
+            says(rt, heap, line, expected)?;
         }
         Ok(())
     }
 
     #[test]
+    fn malformed_lines_are_refused(rt: HostRuntime) -> Result<(), Fail> {
+        all_say(&rt, rt.alloc(), &MALFORMED, "refused\t10\n")
+    }
+
+    #[test]
     fn sizes_outside_the_limits_are_refused(rt: HostRuntime) -> Result<(), Fail> {
-        for line in OUTSIDE {
-            says(&rt, rt.alloc(), line, "refused\t2\n")?;
-        }
-        Ok(())
+        all_say(&rt, rt.alloc(), &OUTSIDE, "refused\t2\n")
     }
 
     #[test]
@@ -226,6 +227,7 @@ mod tests {
         Ok(())
     }
 
+    // The numbers of the tests are below the order: a plain element keeps the lists one `map` each.
     fn element(number: u64) -> F31 {
         F31::from_number(number).unwrap_or(F31::ZERO)
     }

@@ -1,5 +1,5 @@
 -- The end value that is due: the walk over the stages finds a stage that asks for it.
-use Rattle.std.proofs.Common.{◌≡◌, ℕ, zero, suc, ◌+◌, ◌*◌, ◌<◌, ◌≤◌, Bool, true, ◌&&◌, eqb, length, Some, None, Option, sym, refl, ap, ◌∙◌, ⊎_elim, add-one, arith}
+use Rattle.std.proofs.Common.{◌≡◌, ℕ, zero, suc, ◌+◌, ◌*◌, ◌<◌, ◌≤◌, Bool, true, ◌&&◌, eqb, length, Some, None, Option, sym, refl, ap, ◌∙◌, ⊎_elim, arith}
 use Rattle.std.specs.List.{slice_get}
 use Rattle.std.proofs.lemmas.Bool.{eqb-true, and_parts, or_cases, or_left, or_right, cases_lt, false≢true}
 use Rattle.tables.specs.Limits.{most_variables}
@@ -8,7 +8,7 @@ use Rattle.stages.specs.declared.plan.Kind.TheVariants.{Shout, Twist}
 use Rattle.stages.specs.declared.plan.Stage.{Stage}
 use Rattle.stages.specs.declared.plan.Stage.TheVariants.{Bits, Row, Read, Write, Value}
 use Rattle.stages.specs.declared.plan.Plan.{Plan}
-use Rattle.stages.specs.Plan.{stages, stage_at, draws, rounds, challenges, challenges_before}
+use Rattle.stages.specs.Plan.{stages, draws, rounds, challenges, challenges_before}
 use Rattle.stages.specs.Due.{point_size, asks, some_below, asks_here, asks_at, end_value_due}
 use Rattle.stages.proofs.Stages.{rounds_bits, rounds_row, rounds_read, rounds_write, rounds-value}
 use Rattle.stages.proofs.RoundBounds.{limits}
@@ -34,13 +34,10 @@ module _ (p : Plan) where
   few_challenges Write = omega (arith, rounds_write p, (limits p).variables)
   few_challenges Value = omega (arith, rounds-value p, (limits p).variables)
 
-  -- the walk over the stages: the stage with the number i + 1, and where its challenges end
-  pub stage_of_turn : (i : ℕ) (g : Stage) → Some g ≡ stage_at p (i + 1) → slice_get (stages p) i ≡ Some g
-  stage_of_turn i g is = sym (is ∙ ap (stage_at p) (add-one i))
-
-  pub end_of_turn : (i end d r : ℕ) (g : Stage) → Some g ≡ stage_at p (i + 1) → end ≡ challenges_before p i → d ≡ draws p g → r ≡ rounds p g
+  -- where the challenges of a stage end, by its draws and rounds
+  pub end_of_turn : (i end d r : ℕ) (g : Stage) → slice_get (stages p) i ≡ Some g → end ≡ challenges_before p i → d ≡ draws p g → r ≡ rounds p g
       → end + (d + r) ≡ challenges_before p (suc i)
-  end_of_turn i end d r g is e h k = omega (arith, before-suc p i g (stage_of_turn i g is))
+  end_of_turn i end d r g is e h k = omega (arith, before-suc p i g is)
 
   -- the test of a stage of the plan
   pub asks_of : (count i : ℕ) (g : Stage) → slice_get (stages p) i ≡ Some g → asks_at p count i ≡ (asks p.kind g && eqb (challenges_before p (suc i)) count)

@@ -13,13 +13,14 @@ use Rattle.rounds.specs.Summands.{round_point}
 use Rattle.rounds.proofs.Values.{value-add, value-neg}
 use Rattle.rounds.proofs.Readings.{at_point, on_eq, on_lt, on_extension}
 use Rattle.rounds.proofs.Degrees.{weaken, degrees-append, degrees-consts, degree_eq, degree_lt, degree_extension}
+use Rattle.rounds.proofs.Rounds.{consts-value}
 use Rattle.stages.specs.declared.plan.Plan.{Plan}
 use Rattle.stages.specs.Memory.{Memory, chunk_at}
 use Rattle.stages.specs.Formulas.{chunk_value, chunk_part, inc_value, address_of, cycle_of, held_at}
 use Rattle.stages.specs.Terms.{chunk_factor, written_factor}
 use Rattle.stages.proofs.Agreement.{on_held-at}
 use Rattle.stages.proofs.Degrees.{degrees_split, degrees-round_point, degree_held-at, written, degree_written}
-use Rattle.stages.proofs.Linear.{consts-value, IsLine, is_line}
+use Rattle.stages.proofs.Linear.{IsLine, is_line}
 
 module _ {F : Type 0} (f : FieldOf F) (r b : List F) (x : F) where
   abbrev o : Ops F (List F)

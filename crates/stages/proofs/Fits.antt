@@ -2,6 +2,7 @@
 use Rattle.std.proofs.Common.{◌≡◌, ◌↔◌, ℕ, zero, suc, ◌+◌, ◌<◌, Bool, true, false, ◌&&◌, eqb, List, [], ◌∷◌, map, length, get_or, sym, refl, ap, ◌∙◌, arith}
 use lib.ListN.{length-map}
 use Rattle.std.specs.List.{All}
+use Rattle.std.proofs.lemmas.List.{get_or-map}
 use Rattle.std.proofs.lemmas.Bool.{eq-eqb, eqb-true, and_from, and_parts}
 use Rattle.tables.specs.Tables.{Table}
 use Rattle.tables.specs.declared.size.Sizes.{Sizes}
@@ -43,9 +44,4 @@ module _ {F A : Type 0} (e : A → Table F) (xs : List A) where
 
   -- the entries of a chunk table by its place
   pub entries_at : (i : ℕ) (x : A) → i < length xs → x ≡ get_or xs i x → chunk_at (map (λ m. (e m).entries) xs) (suc i) ≡ (e x).entries
-  entries_at i x h is = each xs i x h is
-    where
-      each : (xs : List A) (i : ℕ) (x : A) → i < length xs → x ≡ get_or xs i x → get_or (map (λ m. (e m).entries) xs) i [] ≡ (e x).entries
-      each [] i x h is = absurd (omega arith)
-      each (y ∷ xs) zero x h is = sym (ap (λ z. (e z).entries) is)
-      each (y ∷ xs) (suc i) x h is = each xs i x (omega arith) is
+  entries_at i x h is = get_or-map (λ m. (e m).entries) xs i x [] h ∙ sym (ap (λ m. (e m).entries) is)

@@ -4,7 +4,7 @@ use mathlib.Core.Path.{fun_ext}
 use native.Mathlib.Nat.{two-pow-succ}
 use Rattle.std.proofs.lemmas.List.{nil_from_length}
 use Rattle.fields.specs.Fields.{FieldOf, elements}
-use Rattle.fields.specs.Laws.Derived.{mul-zero}
+use Rattle.fields.specs.Laws.Derived.{add_swap, mul-zero}
 use Rattle.fields.specs.Laws.Solve.{con, ◌⊕◌, ◌⊖◌, ◌⊗◌, ◌≐◌, solve2, solve3, solve4}
 use Rattle.tables.specs.Formulas.{from_one, lt, between, cube_sum, extension}
 use Rattle.tables.specs.Sizes.{k}
@@ -41,7 +41,7 @@ module _ {F : Type 0} (f : FieldOf F) where
   sum-add (suc n) g h =
       ap₂ f.add (sum-add n (λ i b. g i (f.zero ∷ b)) (λ i b. h i (f.zero ∷ b)))
       (sum-add n (λ i b. g (2 ^ n + i) (f.one ∷ b)) (λ i b. h (2 ^ n + i) (f.one ∷ b)))
-      ∙ solve4 f (λ a b c d. a ⊕ b ⊕ (c ⊕ d) ≐ a ⊕ c ⊕ (b ⊕ d)) tt
+      ∙ add_swap f
       (sum n (λ i b. g i (f.zero ∷ b))) (sum n (λ i b. h i (f.zero ∷ b)))
       (sum n (λ i b. g (2 ^ n + i) (f.one ∷ b))) (sum n (λ i b. h (2 ^ n + i) (f.one ∷ b)))
 

@@ -2,6 +2,7 @@ pub mod Lists
 pub mod Stages
 pub mod Bounds
 pub mod Places
+pub mod StageWalk
 pub mod Planned
 pub mod Fits
 pub mod Coordinates

@@ -1,12 +1,10 @@
 -- A formula of degree one in the variable of a round is a line along it.
-use Rattle.std.proofs.Common.{◌≡◌, List, [], ◌∷◌, ◌++◌, map, sym, ap, ◌∙◌, ap₂, map-id, arith}
+use Rattle.std.proofs.Common.{◌≡◌, List, [], ◌∷◌, ◌++◌, sym, ap, ◌∙◌, ap₂, arith}
 use Rattle.fields.specs.Fields.{FieldOf}
 use Rattle.fields.specs.Laws.Solve.{con, ◌⊕◌, ◌⊖◌, ◌⊗◌, ◌≐◌, solve1, solve2, solve3}
 use Rattle.rounds.specs.Polynomials.{Degree, line, value}
-use Rattle.rounds.specs.Readings.{values}
 use Rattle.rounds.specs.Summands.{Summand, round_point, Agrees}
-use Rattle.rounds.proofs.Values.{value-X, value-const}
-use Rattle.rounds.proofs.Readings.{at_point, on_consts}
+use Rattle.rounds.proofs.Rounds.{point_value}
 use Rattle.stages.specs.Terms.{line_of}
 
 module _ {F : Type 0} (f : FieldOf F) where
@@ -20,14 +18,6 @@ module _ {F : Type 0} (f : FieldOf F) where
       (λ a b x. (a ⊕ con 0 ⊗ (b ⊕ con 0 ⊗ con 0)) ⊕ x ⊗ (((a ⊕ con 1 ⊗ (b ⊕ con 1 ⊗ con 0)) ⊖ (a ⊕ con 0 ⊗ (b ⊕ con 0 ⊗ con 0))) ⊕ x ⊗ con 0) ≐ a ⊕ x ⊗ (b ⊕ x ⊗ con 0))
       tt a b x
   line_through (a ∷ b ∷ c ∷ q) d x = absurd (omega (arith, d.within))
-
-  pub consts-value : (xs : List F) (x : F) → values f x (map (λ a. a ∷ []) xs) ≡ xs
-  consts-value xs x = on_consts f (at_point f x) xs ∙ map-id xs
-
-  -- the point of a round, evaluated at x
-  point_value : (r b : List F) (x : F) → values f x (round_point f r b) ≡ r ++ (x ∷ b)
-  point_value [] b x = ap₂ ◌∷◌ (value-X f x) (consts-value b x)
-  point_value (a ∷ r) b x = ap₂ ◌∷◌ (value-const f a x) (point_value r b x)
 
 -- the challenges r before the round's variable, and the coordinates b after it
 module _ {F : Type 0} (f : FieldOf F) (r b : List F) where

@@ -1,7 +1,7 @@
 -- The place of a count: the walk over the stages finds the first whose challenges go past it.
 use Rattle.std.proofs.Common.{◌≡◌, ℕ, zero, suc, ◌+◌, ◌-◌, ◌<◌, ◌≤◌, Bool, true, false, ltb, length, get_or, take, Some, None, sum_by, Option, sym, refl, ap, ◌∙◌, subst, ap₂, ⊎_elim, arith, take_all, take-take}
 use Rattle.std.specs.List.{slice_get}
-use Rattle.std.proofs.lemmas.Option.{slice_get-get_or, slice_get_past}
+use Rattle.std.proofs.lemmas.Option.{slice_get-get_or, slice_get_past, slice_get_within, get_or_from_slice_get}
 use Rattle.std.proofs.lemmas.List.Sums.{sum_by_more, sum_by-take-le}
 use Rattle.std.proofs.lemmas.Bool.{lt-ltb, le-ltb, ltb-true, ltb-false, cond-true, cond-false, cases_lt, cases_Bool}
 use Rattle.stages.specs.declared.plan.Stage.{Stage}
@@ -42,21 +42,12 @@ first_not_before test (suc n) (suc i) h =
     (cases_Bool (test 0))
 
 module _ (p : Plan) where
-  -- a stage that there is has a place in the plan
-  pub stage_below : (i : ℕ) (g : Stage) → slice_get (stages p) i ≡ Some g → i < length (stages p)
-  stage_below i g is =
-      ⊎_elim (λ h. h)
-      (λ h. let never : None ≡ Some g = sym (slice_get_past (stages p) i h) ∙ is in let z : ◌≡◌ {A = ℕ} 0 1 = cc in absurd (omega arith))
-      (cases_lt i (length (stages p)))
-
   pub before-suc : (i : ℕ) (g : Stage) → slice_get (stages p) i ≡ Some g → challenges_before p (suc i) ≡ challenges_before p i + challenges p g
   before-suc i g is =
-      let h : i < length (stages p) = stage_below i g is in
-      let same : Some (get_or (stages p) i Read) ≡ Some g = sym (slice_get-get_or (stages p) i Read h) ∙ is in
-      let stage : get_or (stages p) i Read ≡ g = cc in
+      let stage : get_or (stages p) i Read ≡ g = get_or_from_slice_get (stages p) i g Read is in
       let next : suc i ≡ i + 1 = omega arith in
       ap (challenges_before p) next
-      ∙ sum_by_more (challenges p) (stages p) i Read h
+      ∙ sum_by_more (challenges p) (stages p) i Read (slice_get_within (stages p) i g is)
       ∙ ap (λ g. challenges_before p i + challenges p g) stage
 
   pub before_mono : (i j : ℕ) → i ≤ j → challenges_before p i ≤ challenges_before p j
@@ -74,7 +65,7 @@ module _ (p : Plan) where
   pub place-within : (count i : ℕ) (g : Stage) → slice_get (stages p) i ≡ Some g → challenges_before p i ≤ count → count < challenges_before p i + challenges p g
       → place p count ≡ (suc i, round_of p count g (count - challenges_before p i))
   place-within count i g is low high =
-      let found : first_past p count ≡ i = first_is (λ j. ltb count (challenges_before p (suc j))) (length (stages p)) i (stage_below i g is)
+      let found : first_past p count ≡ i = first_is (λ j. ltb count (challenges_before p (suc j))) (length (stages p)) i (slice_get_within (stages p) i g is)
       (lt-ltb count (challenges_before p (suc i)) (omega (arith, before-suc i g is))) (not_past count i low) in
       ap (λ j. place_in p count j (slice_get (stages p) j)) found ∙ ap (place_in p count i) is
 
@@ -87,7 +78,7 @@ module _ (p : Plan) where
   pub place-past : (count i : ℕ) → slice_get (stages p) i ≡ None → challenges_before p i ≤ count → place p count ≡ (0, 0)
   place-past count i is low =
       ⊎_elim
-      (λ h. let never : None ≡ Some (get_or (stages p) i Read) = sym is ∙ slice_get-get_or (stages p) i Read h in let z : ◌≡◌ {A = ℕ} 0 1 = cc in absurd (omega arith))
+      (λ h. let never : None ≡ Some (get_or (stages p) i Read) = sym is ∙ slice_get-get_or (stages p) i Read h in absurd cc)
       (λ h. count_past count (omega (arith, ap (sum_by (challenges p)) (take_all i (stages p) h))))
       (cases_lt i (length (stages p)))
 
@@ -109,7 +100,7 @@ module _ (p : Plan) where
       at = sym (stage_index n some) ∙ is
 
       pub walk_below : n ≤ length (stages p)
-      walk_below = omega (arith, stage_below (n - 1) g at)
+      walk_below = omega (arith, slice_get_within (stages p) (n - 1) g at)
 
       walk_within : (i : ℕ) → left < challenges p g → round_of p count g left ≡ i → place p count ≡ (n, i)
       walk_within i h round =
@@ -146,7 +137,7 @@ module _ (p : Plan) (count : ℕ) where
 
   among_first : (g : Stage) → slice_get (stages p) (first_past p count) ≡ Some g → Among p count (first_past p count) g
   among_first g is =
-      let passes = first_passes (λ j. ltb count (challenges_before p (suc j))) (length (stages p)) (stage_below p (first_past p count) g is) in
+      let passes = first_passes (λ j. ltb count (challenges_before p (suc j))) (length (stages p)) (slice_get_within (stages p) (first_past p count) g is) in
       record {
         is = is;
         low = before_first (first_past p count) refl;
@@ -161,7 +152,7 @@ module _ (p : Plan) (count : ℕ) where
       by : (o : Option Stage) → slice_get (stages p) (first_past p count) ≡ o → place_in p count (first_past p count) o ≡ at
           → Among p count (at.0 - 1) g × (at.1 ≡ round_of p count g (count - challenges_before p (at.0 - 1)))
       by None is placed =
-          let never : None ≡ Some g = ap (λ x. stage_at p x.0) placed ∙ stage in let z : ◌≡◌ {A = ℕ} 0 1 = cc in absurd (omega arith)
+          let never : None ≡ Some g = ap (λ x. stage_at p x.0) placed ∙ stage in absurd cc
       by (Some h) is placed =
           let here : Some h ≡ Some g = sym is ∙ ap (λ x. stage_at p x.0) placed ∙ stage in
           let same : h ≡ g = cc in

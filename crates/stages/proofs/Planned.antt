@@ -24,19 +24,19 @@ module _ (kind : Kind) (d : ℕ) where
   chunk_planned i w g h is = let e : chunk_stage i w ≡ g = cc in subst (Planned kind d) e (either_planned (eqb (i % 2) 0) w h)
 
 not_value : (b : Bool) (w : ChunkTable) → Some (cond b (Bits w) (Row w)) ≡ Some Value → ⊥
-not_value true w e = let z : ◌≡◌ {A = ℕ} 0 1 = cc in omega arith
-not_value false w e = let z : ◌≡◌ {A = ℕ} 0 1 = cc in omega arith
+not_value true w e = absurd cc
+not_value false w e = absurd cc
 
 last_planned : (d j : ℕ) (g : Stage) → slice_get (Read ∷ []) j ≡ Some g → Planned Shout d g
 last_planned d zero g is = let e : Read ≡ g = cc in subst (Planned Shout d) e tt
-last_planned d (suc j) g is = let z : ◌≡◌ {A = ℕ} 0 1 = cc in absurd (omega arith)
+last_planned d (suc j) g is = absurd cc
 
 memory_planned : (d j : ℕ) (g : Stage) → slice_get memory_stages j ≡ Some g → Planned Twist d g
 memory_planned d zero g is = let e : Read ≡ g = cc in subst (Planned Twist d) e tt
 memory_planned d (suc zero) g is = let e : Value ≡ g = cc in subst (Planned Twist d) e tt
 memory_planned d (suc (suc zero)) g is = let e : Write ≡ g = cc in subst (Planned Twist d) e tt
 memory_planned d (suc (suc (suc zero))) g is = let e : Value ≡ g = cc in subst (Planned Twist d) e tt
-memory_planned d (suc (suc (suc (suc j)))) g is = let z : ◌≡◌ {A = ℕ} 0 1 = cc in absurd (omega arith)
+memory_planned d (suc (suc (suc (suc j)))) g is = absurd cc
 
 -- the stages of Twist: those of the reads' chunk tables, of the writes', and the last four
 twist_cases : {P : Type 0} (d i : ℕ) (g : Stage) → slice_get (stages_of Twist d) i ≡ Some g
@@ -70,7 +70,7 @@ twist_read d =
     nth_after_chunks Ra d (4 * d) (2 * d) (chunk_stages Wa d ++ memory_stages) (omega arith) ∙ nth_after_chunks Wa d (2 * d) 0 memory_stages (omega arith)
 
 after_read : (d i j : ℕ) → 4 * d + j ≡ i → slice_get memory_stages j ≡ Some Value → 4 * d < i
-after_read d i zero e is = let z : ◌≡◌ {A = ℕ} 0 1 = cc in absurd (omega arith)
+after_read d i zero e is = absurd cc
 after_read d i (suc j) e is = omega arith
 
 value_after_read : (kind : Kind) (d i : ℕ) → slice_get (stages_of kind d) i ≡ Some Value → (slice_get (stages_of kind d) (4 * d) ≡ Some Read) × (4 * d < i)

@@ -1,8 +1,7 @@
 -- The bound of a round is the degree that the stage's summand has in the round's variable.
-use Rattle.std.proofs.Common.{◌≡◌, ℕ, ◌+◌, ◌*◌, ◌<◌, ◌≤◌, List, length, get_or, Some, sym, ◌∙◌, ⊎_elim, arith}
+use Rattle.std.proofs.Common.{◌≡◌, ℕ, ◌+◌, ◌*◌, ◌<◌, ◌≤◌, get_or, ◌∙◌, ⊎_elim, arith}
 use lib.ListN.{get_or-replicate}
-use Rattle.std.specs.List.{slice_get}
-use Rattle.std.proofs.lemmas.Option.{slice_get-get_or}
+use Rattle.std.proofs.lemmas.Option.{get_or_from_slice_get}
 use Rattle.std.proofs.lemmas.Bool.{cases_lt}
 use Rattle.tables.specs.Limits.{most_chunks}
 use Rattle.tables.specs.Sizes.{k}
@@ -50,9 +49,6 @@ variable_degree (in_cycle h) = omega arith
 abbrev pub most_degree : ℕ
 most_degree = most_chunks + 2
 
-get_or_of_nth : (xs : List ℕ) (i x : ℕ) → i < length xs → slice_get xs i ≡ Some x → get_or xs i 0 ≡ x
-get_or_of_nth xs i x h e = let same : Some (get_or xs i 0) ≡ Some x = sym (slice_get-get_or xs i 0 h) ∙ e in cc
-
 module _ (p : Plan) where
   abbrev s : Sizes
   s = p.sizes
@@ -70,15 +66,15 @@ module _ (p : Plan) where
   bound_is (Bits w) i a j at h = omega (arith, variable_degree at, get_or-replicate {A = ℕ} (s.c + s.t) i 3 0 (omega (arith, rounds_bits p w)))
   bound_is (Row w) i a j at h = omega (arith, variable_degree at, get_or-replicate {A = ℕ} s.c i 1 0 (omega (arith, rounds_row p w)))
   bound_is Read i a j (in_address low) h =
-      get_or_of_nth (bounds p Read) i 2 h (nth_address (k s) s.t 2 (read_degree p.kind s.d) i low) ∙ read_address p.kind
+      get_or_from_slice_get (bounds p Read) i 2 0 (nth_address (k s) s.t 2 (read_degree p.kind s.d) i low) ∙ read_address p.kind
   bound_is Read i a j (in_cycle high) h =
-      get_or_of_nth (bounds p Read) i (read_degree p.kind s.d) h
+      get_or_from_slice_get (bounds p Read) i (read_degree p.kind s.d) 0
       (nth_cycle (k s) s.t 2 (read_degree p.kind s.d) i high (omega (arith, rounds_read p)))
       ∙ read_cycle p.kind
   bound_is Write i a j (in_address low) h =
-      omega (arith, get_or_of_nth (bounds p Write) i 3 h (nth_address (k s) s.t 3 (s.d + 2) i low))
+      omega (arith, get_or_from_slice_get (bounds p Write) i 3 0 (nth_address (k s) s.t 3 (s.d + 2) i low))
   bound_is Write i a j (in_cycle high) h =
-      omega (arith, get_or_of_nth (bounds p Write) i (s.d + 2) h (nth_cycle (k s) s.t 3 (s.d + 2) i high (omega (arith, rounds_write p))))
+      omega (arith, get_or_from_slice_get (bounds p Write) i (s.d + 2) 0 (nth_cycle (k s) s.t 3 (s.d + 2) i high (omega (arith, rounds_write p))))
   bound_is Value i a j at h = omega (arith, variable_degree at, get_or-replicate {A = ℕ} s.t i 2 0 (omega (arith, rounds-value p)))
 
   pub limits : Bounds s.d s.c s.t

@@ -1,5 +1,5 @@
 -- The plan of a job: its stages in order, and the draws and degree bounds of each.
-use Rattle.std.specs.Prelude.{ℕ, zero, suc, ◌+◌, ◌*◌, ◌≤◌, List, [], ◌∷◌, ◌++◌, length, take, replicate, None, sum_by, Option}
+use Rattle.std.specs.Prelude.{ℕ, zero, suc, ◌+◌, ◌*◌, ◌≤◌, List, [], ◌∷◌, ◌++◌, length, take, drop, replicate, None, sum_by, Option}
 use Rattle.std.specs.List.{slice_get}
 use Rattle.tables.specs.Sizes.{k}
 use Rattle.stages.specs.declared.plan.Kind.{Kind}
@@ -53,6 +53,11 @@ module _ (p : Plan) where
   abbrev pub stage_at : ℕ → Option Stage
   stage_at zero = None
   stage_at (suc i) = slice_get stages i
+
+  -- the stages from a number on
+  abbrev pub stages_from : ℕ → List Stage
+  stages_from zero = []
+  stages_from (suc i) = drop i stages
 
   -- the draws that a stage takes before its rounds
   abbrev pub draws : Stage → ℕ

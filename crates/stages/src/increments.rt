@@ -28,6 +28,7 @@ fn increment_at<F: Field, M: Listed<F>>(inc: &M, index: usize) -> F
 }
 
 // The sums over the `count` increments from `start` on, by halves of the cycles.
+// The count is halved at each turn: increments are read by entry, and are no slice that would carry its length.
 fn cell_sums<F: Field, M: Listed<F>>(
     inc: &M,
     start: usize,
@@ -56,6 +57,7 @@ fn cell_sums<F: Field, M: Listed<F>>(
 }
 
 // Val over the `count` increments from `start` on, by halves of the cells.
+// The last line is the value of a line at x, in one line: a call of another crate for it would be no shorter.
 fn value_from<F: Field, M: Listed<F>>(
     inc: &M,
     start: usize,
@@ -76,7 +78,7 @@ fn value_from<F: Field, M: Listed<F>>(
     low.plus(x.times(high.minus(low)))
 }
 
-// Val at an address and a cycle that fit the increments.
+// Val at an address and a cycle that fit the increments. The two stay apart: halves are taken of each, and LT takes the cycle alone.
 pub(crate) fn value_of<F: Field, M: Listed<F>>(
     sizes: Sizes,
     inc: &M,

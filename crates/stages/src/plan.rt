@@ -1,7 +1,8 @@
 // The plan of a job: which stages it has, and the draws, rounds and degree bounds of each.
 ghost use Rattle.std.specs.Prelude.{◌≡◌, ◌%◌, ◌≤◌, length, if◌then◌else◌, nat_eq};
 ghost use Rattle.std.specs.List.{slice_get};
-ghost use Rattle.stages.specs.Plan.{memory_stages, read_degree, stages, stage_at, draws, rounds, bound_at, challenge_count, closed_form};
+ghost use Rattle.std.specs.Iterator.{YieldsFirst, item_count};
+ghost use Rattle.stages.specs.Plan.{memory_stages, read_degree, stages, stages_from, stage_at, draws, rounds, bound_at, challenge_count, closed_form};
 ghost use Rattle.stages.specs.Places.{place};
 ghost use Rattle.stages.specs.Due.{point_size};
 
@@ -69,6 +70,16 @@ impl Plan {
                 Some(chunk_stage(index, ChunkTable::Wa(index / 2 + 1)))
             }
             Kind::Twist => last_stage(index - chunk_stages),
+        }
+    }
+
+    // The stages in order.
+    pub fn stages(self) -> Stages
+        ensures { stages_from result.plan result.next ≡ stages self }
+    {
+        Stages {
+            plan: self,
+            next: 1,
         }
     }
 
@@ -178,7 +189,28 @@ impl Plan {
     }
 }
 
-// Stages of a chunk table come in pairs, bits first.
+// The stages of a plan from a number on, in order.
+#[derive(Debug, Drop)]
+pub struct Stages {
+    plan: Plan,
+    next: usize,
+}
+
+impl Iterator for Stages {
+    type Item = Stage;
+
+    ghost next_gives = { YieldsFirst (λ s. stages_from s.plan s.next) };
+
+    ghost remaining = { item_count (λ s. stages_from s.plan s.next) };
+
+    fn next(&mut self) -> Option<Stage> {
+        let stage = self.plan.stage_at(self.next)?;
+        self.next += 1;
+        Some(stage)
+    }
+}
+
+// Stages of a chunk table come in pairs, bits first: a plan orders them by the parity of the number.
 fn chunk_stage(index: usize, table: ChunkTable) -> Stage
     ensures { result ≡ (if nat_eq (index % 2) 0 then Stage.Bits table else Stage.Row table) }
 {
@@ -189,14 +221,12 @@ fn chunk_stage(index: usize, table: ChunkTable) -> Stage
     }
 }
 
-// The stages of Twist after those of the chunk tables, from 0.
+// The stages of Twist after those of the chunk tables.
+const LAST_STAGES: [Stage; 4] = [Stage::Read, Stage::Value, Stage::Write, Stage::Value];
+
+// The one of these with an index, from 0.
 fn last_stage(index: usize) -> Option<Stage>
     ensures { result ≡ slice_get memory_stages index }
 {
-    match index {
-        0 => Some(Stage::Read),
-        1 | 3 => Some(Stage::Value),
-        2 => Some(Stage::Write),
-        _ => None,
-    }
+    LAST_STAGES.get(index).copied()
 }

@@ -319,8 +319,7 @@ fn end_value_due(plan: Plan, count: usize) -> bool
     ensures { result ≡ end_value_due plan count }
 {
     let mut end = 0;
-    for index in 0..plan.stage_count() {
-        let stage = plan.stage_at(index + 1).unwrap();
+    for stage in plan.stages() {
         end += plan.draws(stage) + plan.rounds(stage);
         if asks(plan.kind, stage) && end == count {
             return true;

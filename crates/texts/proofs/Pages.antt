@@ -1,5 +1,5 @@
 -- Text that is written piece by piece, a piece for each element of a list.
-use Rattle.std.proofs.Common.{◌≡◌, ℕ, zero, suc, ◌+◌, ◌-◌, ◌<◌, ◌≤◌, List, [], ◌∷◌, ◌++◌, length, get_or, take, drop, Some, decimal, sym, ap, ◌∙◌, ap₂, arith, length-drop}
+use Rattle.std.proofs.Common.{◌≡◌, ℕ, zero, suc, ◌+◌, ◌-◌, ◌<◌, ◌≤◌, List, [], ◌∷◌, ◌++◌, length, get_or, take, drop, Some, decimal, sym, ap, ◌∙◌, ap₂, add-one, arith, length-drop, drop-drop}
 use Rattle.std.specs.List.{flat_map, enumerate_from, slice_get}
 use Rattle.std.proofs.lemmas.List.{flat_map_more, take_more, take_all, get_or-drop}
 use Rattle.std.proofs.lemmas.List.FromFn.{get_or-enumerate_from, length-enumerate_from}
@@ -15,6 +15,12 @@ next_piece f xs i m n x within here before after =
     ap (λ k. flat_map f (take k xs) ++ f x) before
     ∙ flat_map_more f [] (take i xs) x
     ∙ ap (flat_map f) (sym (ap (λ k. take k xs) after ∙ take_more xs i x within ∙ ap (λ y. take i xs ++ (y ∷ [])) here))
+
+nth_of_drop : {X : Type 0} (xs : List X) (i : ℕ) (x : X) (rest : List X) → drop i xs ≡ x ∷ rest → slice_get xs i ≡ Some x
+nth_of_drop [] zero x rest h = absurd cc
+nth_of_drop [] (suc i) x rest h = absurd cc
+nth_of_drop (y ∷ xs) zero x rest h = let e : y ≡ x = cc in ap Some e
+nth_of_drop (y ∷ xs) (suc i) x rest h = nth_of_drop xs i x rest h
 
 first_number : (bs : List ℕ) (b : ℕ) → slice_get bs 0 ≡ Some b → decimal b ++ flat_map after_comma (drop 1 bs) ≡ comma_list bs
 first_number [] b at = absurd (cc)
@@ -36,9 +42,22 @@ module _ (p : Plan) where
       (omega arith)
       (omega arith)
 
-  pub last_stage : (n : ℕ) (g : Stage) → length (stages p) ≤ n → stage_at p n ≡ Some g → lines_before n ++ stage_line p n g ≡ plan_text p
-  last_stage n g end at =
-      next_stage n g at ∙ ap (flat_map (numbered_line p)) (take_all (n + 1 - 1) (enumerate_from 1 (stages p)) (omega (arith, length-enumerate_from 1 (stages p))))
+  pub all_lines : (i : ℕ) → drop i (stages p) ≡ [] → lines_before (i + 1) ≡ plan_text p
+  all_lines i none =
+      let past = ap length none in
+      ap (flat_map (numbered_line p)) (take_all (i + 1 - 1) (enumerate_from 1 (stages p)) (omega (arith, past, length-drop i (stages p), length-enumerate_from 1 (stages p))))
+
+  -- of the stages that are left from an index on, the first has the next line
+  module _ (i : ℕ) (left rest : List Stage) (g : Stage) (here : left ≡ drop i (stages p)) (next : left ≡ g ∷ rest) where
+    pub left_after : (j : ℕ) → j ≡ i + 1 → rest ≡ drop j (stages p)
+    left_after j e = ap (drop 1) (sym next ∙ here) ∙ drop-drop 1 i (stages p) ∙ ap (λ n. drop n (stages p)) (let one : i + 1 ≡ j = omega arith in one)
+
+    pub line_after : (k j : ℕ) → k ≡ i → j ≡ i + 1 → lines_before (i + 1) ++ stage_line p (k + 1) g ≡ lines_before (j + 1)
+    line_after k j same e =
+        let number : k + 1 ≡ i + 1 = omega arith in
+        ap (λ n. lines_before (i + 1) ++ stage_line p n g) number
+        ∙ next_stage (i + 1) g (ap (stage_at p) (add-one i) ∙ nth_of_drop (stages p) i g rest (sym here ∙ next))
+        ∙ ap (λ n. lines_before (n + 1)) (sym e)
 
 module _ (p : Plan) (g : Stage) where
   -- the bounds of the rounds from 2 on before a round, each after a comma

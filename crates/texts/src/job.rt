@@ -49,7 +49,7 @@ fn number(bytes: &[u8], end: u8) -> Option<(usize, &[u8])>
     Some((number, &bytes[count + 1..]))
 }
 
-// The name of a kind, then a tab: the kind and the rest.
+// The name of a kind, then a tab: the kind and the rest. Two names are two lines; a table of them would need a search beside it.
 fn kind(bytes: &[u8]) -> Option<(Kind, &[u8])>
     ensures { KindFirst bytes.now result }
 {

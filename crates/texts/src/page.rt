@@ -40,6 +40,7 @@ impl fmt::Display for BoundList {
             return write!(f, "-");
         };
         write!(f, "{first}")?;
+        // Rounds by number: an iterator over bounds would serve this one loop.
         for round in 2..=plan.rounds(stage) {
             let bound = plan.bound_at(stage, round).unwrap();
             write!(f, ",{bound}")?;
@@ -81,8 +82,8 @@ impl fmt::Display for PlanText {
 
     fn fmt<W: fmt::Write>(&self, f: &mut fmt::Formatter<W>) -> fmt::Result {
         let plan = self.0;
-        for number in 1..=plan.stage_count() {
-            let stage = plan.stage_at(number).unwrap();
+        for (index, stage) in plan.stages().enumerate() {
+            let number = index + 1;
             let line = StageLine {
                 plan,
                 number,

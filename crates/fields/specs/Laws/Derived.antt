@@ -9,6 +9,10 @@ module _ {F : Type 0} (f : FieldOf F) where
   pub add_left_comm : (a b c : F) → add a (add b c) ≡ add b (add a c)
   add_left_comm a b c = sym (add_assoc a b c) ∙ ap (λ x. add x c) (add_comm a b) ∙ add_assoc b a c
 
+  -- the middle two of four terms swapped
+  pub add_swap : (a b c d : F) → add (add a b) (add c d) ≡ add (add a c) (add b d)
+  add_swap a b c d = add_assoc a b (add c d) ∙ ap (add a) (add_left_comm b c d) ∙ sym (add_assoc a c (add b d))
+
   pub mul_left_comm : (a b c : F) → mul a (mul b c) ≡ mul b (mul a c)
   mul_left_comm a b c = sym (mul_assoc a b c) ∙ ap (λ x. mul x c) (mul_comm a b) ∙ mul_assoc b a c
 

@@ -56,6 +56,7 @@ impl Field for P31 {
         self.re.to_number() + self.im.to_number() * F31::ORDER
     }
 
+    // Sums and differences part by part, each in full: a closure for both would need clauses of its own.
     fn plus(self, other: P31) -> P31 {
         P31 {
             re: self.re.plus(other.re),
@@ -85,7 +86,7 @@ impl Field for P31 {
     }
 }
 
-// An element shows itself as the decimal number that it means.
+// An element shows itself as the decimal number that it means. Display is foreign, so one impl for every field is refused.
 impl fmt::Display for P31 {
     ghost output = { λ x. Some (decimal (p31_field.meaning x)) };
 

@@ -20,10 +20,9 @@ walk-preserved c = (
       c.loop-round.left (omega arith),
 )
 
-pub returns-in_default : goal.returns-in_default
-returns-in_default c =
-    let e = walk_past c.args.self c.args.count c.walk.number c.walk.left c.walk.invariant.0 c.walk.invariant.1 (sym c.in_default.ensures) in
-    record { place = sym e; past = λ h. sym e ∙ count_past c.args.self c.args.count h }
+pub returns-in_default-clause-place : goal.returns-in_default-clause-place
+returns-in_default-clause-place c =
+    sym (walk_past c.args.self c.args.count c.walk.number c.walk.left c.walk.invariant.0 c.walk.invariant.1 (sym c.in_default.ensures))
 
 pub returns-then-left-draws : goal.returns-then-left-draws
 returns-then-left-draws c =

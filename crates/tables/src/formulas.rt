@@ -150,12 +150,13 @@ fn bit_weight<F: Field>(number: usize, x: F) -> F
 
 // eq of the bits of a number and a point.
 pub(crate) fn weight<F: Field>(number: usize, point: &[F]) -> F
-    requires { length point.now ≤ most_variables }
     ensures { result ≡ eq F.Field.field (elements F.Field.field) (corner F.Field.field (length point.now) number) point.now }
 {
     let mut product = F::one_element();
-    for (i, x) in point.iter().rev().enumerate() {
-        product = bit_weight(number >> i, *x).times(product);
+    let mut rest = number;
+    for x in point.iter().rev() {
+        product = bit_weight(rest, *x).times(product);
+        rest /= 2;
     }
     product
 }

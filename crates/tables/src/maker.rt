@@ -32,7 +32,6 @@ fn clear<F: Field>(list: &mut [F], count: usize)
     requires { count ≤ length list.old }
     ensures { list.new ≡ placed count (λ _. F.Field.field.zero) list.old }
 {
-    // Not `fill`, which asks for a clone that cannot fail: the bound on F does not say that.
     list[..count].fill_with(|| F::zero_element());
 }
 

@@ -274,6 +274,7 @@ impl<'a, F: Field, A: Committed<F>, M: Listed<F>, V: Committed<F>> Round<'a, F, 
         ensures { coefficients result ≡ kept F.Field.field (poly_sum F.Field.field (2 ^ self.now.left) (corner_term F.Field.field self.now.prover.now.plan self.now.prover.now.memory self.now.stage self.now.draws.now self.now.before.now self.now.r.now self.now.left)) }
     {
         let mut sum = Polynomial::zero();
+        // The number of the corner is what its term takes.
         for index in 0..1 << self.left {
             sum = sum.plus(self.corner_term(index));
         }

@@ -48,6 +48,7 @@ impl<F: Field> Committed<F> for Counting {
 impl<F: Field> Listed<F> for Counting {
     fn entry(&self, index: usize) -> Result<F, Refusal> {
         check_index(index, self.variables)?;
+        // So many ones: nothing is indexed, and a fold would be no shorter.
         let mut sum = F::zero_element();
         for _ in 0..index {
             sum = sum.plus(F::one_element());

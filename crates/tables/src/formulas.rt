@@ -153,6 +153,7 @@ pub(crate) fn weight<F: Field>(number: usize, point: &[F]) -> F
     ensures { result ≡ eq F.Field.field (elements F.Field.field) (corner F.Field.field (length point.now) number) point.now }
 {
     let mut product = F::one_element();
+    // The bits that are left go along: a shift by the place of each would ask for a short point.
     let mut rest = number;
     for x in point.iter().rev() {
         product = bit_weight(rest, *x).times(product);

@@ -114,6 +114,7 @@ impl<'a, F: Field> RunLists<'a, F> {
             write: 0,
             value: F::zero_element(),
         };
+        // The number of the cycle is what is entered.
         for j in operations.len()..cycles {
             self.enter_cycle(sizes, j, filling);
         }

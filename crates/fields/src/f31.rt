@@ -1,4 +1,5 @@
 // The field of the residues modulo 2147483647.
+ghost use Rattle.std.specs.Prelude.{◌≡◌, ◌+◌, ◌*◌, ◌%◌, ◌<◌, ◌≤◌};
 ghost use Rattle.fields.specs.F31.{f31_modulus};
 
 use crate::residue::Residue;
@@ -16,15 +17,19 @@ pub(crate) const ONE: F31 = F31 { value: 1 };
 // The bits below 31.
 const LOW_BITS: u64 = 2147483647;
 
+// The bits from 31 on added to those below, since 2^31 leaves 1.
+fn folded(product: u64) -> u32
+    requires { product ≤ 2147483646 * 2147483646 }
+    ensures below { result < 2147483647 + 2147483647 }
+    ensures same { result % 2147483647 ≡ product % 2147483647 }
+{
+    (product & LOW_BITS) as u32 + (product >> 31) as u32
+}
+
 impl ModuloPrime<MODULUS> for F31 {
     ghost modulus = { f31_modulus };
 
-    // The bits from 31 on are added to those below, since 2^31 leaves 1.
     fn product(a: u32, b: u32) -> u32 {
-        let product = a as u64 * b as u64;
-        reduced(
-            (product & LOW_BITS) as u32 + (product >> 31) as u32,
-            MODULUS,
-        )
+        reduced(folded(a as u64 * b as u64), MODULUS)
     }
 }

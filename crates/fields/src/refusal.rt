@@ -26,7 +26,7 @@ pub enum Refusal {
     MalformedLine,
 }
 
-// The number by which the refusal is known.
+// The number by which the protocol knows the refusal.
 impl From<Refusal> for u8 {
     ghost from_gives = { λ refusal number. number ≡ (reported refusal).number };
 

@@ -9,7 +9,8 @@ use crate::message::{coefficient_of, evaluate};
 use fields::field::Field;
 use fields::refusal::Refusal;
 
-// The coefficients are single fields: an array of them would have each generic caller prove that it fits in memory.
+// The coefficients are single fields. An array of them was tried: each generic caller has to prove that it fits in memory,
+// and four in the crates above did not.
 #[derive(Clone, Copy, PartialEq, Eq, Debug)]
 pub struct Polynomial<F> {
     c0: F,

@@ -5,7 +5,7 @@ use fields::f257::F257;
 use fields::field::Field;
 use fields::refusal::Refusal;
 
-// The element that means a number below the order.
+// The element that means a number below the order. One that the tests of several crates share would have to be public.
 fn f257(number: u64) -> F257 {
     F257::from_number(number).unwrap_or(F257::ZERO)
 }

@@ -227,7 +227,7 @@ mod tests {
         Ok(())
     }
 
-    // The numbers of the tests are below the order: a plain element keeps the lists one `map` each.
+    // The numbers are below the order. A function that the tests of several crates share would have to be public.
     fn element(number: u64) -> F31 {
         F31::from_number(number).unwrap_or(F31::ZERO)
     }
@@ -251,6 +251,7 @@ mod tests {
             value_at(sizes, &inc, &point[2..3], &point[3..4])?.to_number(),
             54
         );
+        // Refusals by the numbers of the protocol.
         assert_eq!(rt;
             value_at(sizes, &inc, &point[0..2], &point[3..4]).map_err(u8::from),
             Err(7)

@@ -79,12 +79,7 @@ fn value_from<F: Field, M: Listed<F>>(
 }
 
 // Val at an address and a cycle that fit the increments. The two stay apart: halves are taken of each, and LT takes the cycle alone.
-pub(crate) fn value_of<F: Field, M: Listed<F>>(
-    sizes: Sizes,
-    inc: &M,
-    address: &[F],
-    cycle: &[F],
-) -> F
+fn value_of<F: Field, M: Listed<F>>(sizes: Sizes, inc: &M, address: &[F], cycle: &[F]) -> F
     requires fits { (M.Committed.table inc.now).variables ≡ k sizes + sizes.t }
     requires address { length address.now ≡ k sizes }
     requires cycle { length cycle.now ≡ sizes.t }

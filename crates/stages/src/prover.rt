@@ -1,34 +1,30 @@
 // The proving end: the message of a round and the end value of a stage, as they are due at the challenges so far.
-ghost use Rattle.std.specs.Prelude.{◌≡◌, ◌+◌, ◌-◌, ◌*◌, ◌^◌, ◌<◌, ◌≤◌, true, false, ◌++◌, map, length, MatchResult};
+ghost use Rattle.std.specs.Prelude.{◌≡◌, ◌+◌, ◌-◌, ◌*◌, ◌^◌, ◌<◌, ◌≤◌, true, false, ◌++◌, map, length, MatchResult, ◌%◌, ◌∷◌, take, slice_index_or};
 ghost use Rattle.fields.specs.Fields.{elements};
 ghost use Rattle.tables.specs.Formulas.{eq, lt, extension};
 ghost use Rattle.tables.specs.Sizes.{k};
 ghost use Rattle.tables.specs.Tables.{entry};
 ghost use Rattle.rounds.specs.Accumulators.{coefficients, kept};
-ghost use Rattle.rounds.specs.Polynomials.{padded};
+ghost use Rattle.rounds.specs.Polynomials.{padded, poly_mul, line as the_line};
 ghost use Rattle.stages.specs.Formulas.{cycle_of, held_at};
-ghost use Rattle.stages.specs.Models.{kind_of, plan_of, tables_fit, memory};
-ghost use Rattle.stages.specs.Terms.{value_term, line_of, product_term, written_factor, term, RoundOf, corner_term, poly_sum};
+ghost use Rattle.stages.specs.Models.{kind_of, plan_of, tables_fit, memory, chunks_fit};
+ghost use Rattle.stages.specs.Terms.{value_term, line_of, product_term, written_factor, term, RoundOf, corner_term, poly_sum, chunk_at_point, times_chunks, bits_term, row_term};
 ghost use Rattle.stages.specs.Plan.{ChunkOf, Planned, draws as draw_count, rounds};
-ghost use Rattle.stages.specs.Memory.{chunk_table};
+ghost use Rattle.stages.specs.Memory.{chunk_table, chunk_at};
 ghost use Rattle.stages.specs.Due.{point_size, asks, end_value_due, message_from, due_message, message_answer, message_output, end_value_answer};
+ghost use Rattle.std.specs.Fn.{FnReturnsAt};
+ghost use Rattle.tables.specs.Limits.{most_variables};
+ghost use Rattle.tables.specs.Sums.{bit, corner};
 
-mod chunks;
-mod line;
-mod point;
-
-use crate::increments::value_of;
+use crate::increments::value_at;
 use crate::memory::{Tables, tables_fit};
 use crate::plan::{ChunkTable, Kind, Plan, Stage};
-use crate::prover::chunks::{Chunk, ChunkTables};
-use crate::prover::line::Ends;
-use crate::prover::point::Point;
 use fields::field::Field;
 use fields::refusal::Refusal;
 use rounds::polynomial::Polynomial;
-use std::marker::Model;
+use std::marker::{Model, PhantomData};
 use tables::formulas::{eq_at, lt_at};
-use tables::size::Sizes;
+use tables::size::{MOST_VARIABLES, Sizes};
 use tables::table::{Committed, Listed};
 
 // A table opened at a point that it has.
@@ -47,12 +43,226 @@ fn eq_of_points<F: Field>(x: &[F], y: &[F]) -> F
     eq_at(x, y).unwrap()
 }
 
-// LT of points of one length, which lt_at never refuses.
+// LT of points of one length, which lt_at never refuses: a function of its own as above.
 fn lt_of_points<F: Field>(x: &[F], y: &[F]) -> F
     requires { length x.now ≡ length y.now }
     ensures { result ≡ lt F.Field.field (elements F.Field.field) x.now y.now }
 {
     lt_at(x, y).unwrap()
+}
+
+// Two points that differ in the round's variable alone, which is zero at the low one and one at the high one. Each term
+// asks for a length of its own, the number of its stage's rounds, so no size stands here.
+#[derive(Drop)]
+struct Ends<'a, F> {
+    low: &'a [F],
+    high: &'a [F],
+    ghost same: { length low.now ≡ length high.now },
+}
+
+// The values of a factor at both ends.
+#[derive(Clone, Copy)]
+struct Line<F> {
+    low: F,
+    high: F,
+}
+
+impl<'a, F: Field> Ends<'a, F> {
+    // The line of a factor: a closure's results are known at the ends alone, where it ran.
+    fn line<G: Fn(&[F]) -> F>(&self, factor: G) -> Line<F>
+        requires low { G.pre factor self.now.low }
+        requires high { G.pre factor self.now.high }
+        ensures low { FnReturnsAt G.Fn factor self.now.low.now result.low }
+        ensures high { FnReturnsAt G.Fn factor self.now.high.now result.high }
+    {
+        Line {
+            low: factor(self.low),
+            high: factor(self.high),
+        }
+    }
+}
+
+impl<F: Field> Line<F> {
+    // The line as a polynomial.
+    fn alone(self) -> Polynomial<F>
+        ensures { coefficients result ≡ kept F.Field.field (the_line F.Field.field self.low self.high) }
+    {
+        Polynomial::line(self.low, self.high)
+    }
+
+    // A polynomial times the line.
+    fn times(self, polynomial: Polynomial<F>) -> Polynomial<F>
+        ensures { coefficients result ≡ kept F.Field.field (poly_mul F.Field.field (coefficients polynomial) (the_line F.Field.field self.low self.high)) }
+    {
+        polynomial.times_line(self.low, self.high)
+    }
+}
+
+// A point, in an array with room for the most coordinates: a library call allocates nothing.
+#[derive(Drop)]
+struct Point<F> {
+    coordinates: [F; MOST_VARIABLES],
+    size: usize,
+    ghost within: { size ≤ most_variables },
+}
+
+// The last bit of a number as an element.
+fn last_bit<F: Field>(number: usize) -> F
+    ensures { result ≡ bit F.Field.field (number % 2) }
+{
+    if number % 2 == 1 {
+        F::one_element()
+    } else {
+        F::zero_element()
+    }
+}
+
+// Coordinate `i` of the point that has the challenges `r`, then `x`, then the bits of `index`.
+fn coordinate<F: Field>(r: &[F], x: F, left: usize, index: usize, i: usize) -> F
+    requires { left ≤ most_variables }
+    ensures { i < length r.now + 1 + left → result ≡ slice_index_or (r.now ++ (x ∷ corner F.Field.field left index)) i F.Field.field.zero }
+{
+    if i < r.len() {
+        r[i]
+    } else if i == r.len() {
+        x
+    } else {
+        last_bit(index >> left.saturating_sub(i - r.len()))
+    }
+}
+
+impl<F: Field> Point<F> {
+    // The point that has the challenges `r`, then `x`, then the bits of `index`.
+    fn new(r: &[F], x: F, left: usize, index: usize) -> Point<F>
+        requires { length r.now + 1 + left ≤ most_variables }
+        ensures { take result.size result.coordinates ≡ r.now ++ (x ∷ corner F.Field.field left index) }
+    {
+        // A walk: array::from_fn promises each place only along a chain of calls, and the walk's invariant is shorter.
+        let mut coordinates = [x; MOST_VARIABLES];
+        for (i, place) in coordinates.iter_mut().enumerate() {
+            *place = coordinate(r, x, left, index, i);
+        }
+        Point {
+            coordinates,
+            size: r.len() + 1 + left,
+        }
+    }
+
+    fn as_slice(&self) -> &[F]
+        ensures { result.now ≡ take self.now.size self.now.coordinates }
+    {
+        &self.coordinates[..self.size]
+    }
+}
+
+// The table of a chunk.
+#[derive(Drop)]
+struct Chunk<'a, F: Field, A: Committed<F>> {
+    sizes: Sizes,
+    table: &'a A,
+    field: PhantomData<F>,
+    ghost variables: { (A.Committed.table table.now).variables ≡ sizes.c + sizes.t },
+}
+
+// The tables of all chunks.
+#[derive(Drop)]
+struct ChunkTables<'a, F: Field, A: Committed<F>> {
+    sizes: Sizes,
+    tables: &'a [A],
+    field: PhantomData<F>,
+    ghost fit: { chunks_fit sizes (map A.Committed.table tables.now) ≡ true },
+}
+
+impl<'a, F: Field, A: Committed<F>> Chunk<'a, F, A> {
+    // The value at the point's cycle and at chunk `i` of its address; the first chunk has the number 0.
+    fn value_at(&self, i: usize, point: &[F]) -> F
+        requires within { i < self.now.sizes.d }
+        requires point { length point.now ≡ k self.now.sizes + self.now.sizes.t }
+        ensures { result ≡ chunk_at_point F.Field.field self.now.sizes (A.Committed.table self.now.table.now).entries i point.now }
+    {
+        let c = self.sizes.chunk_bits();
+        let k = self.sizes.address_bits();
+        let (address, cycle) = point.split_at(k);
+        let from = i * c;
+        opened_at(self.table, &address[from..from + c], cycle)
+    }
+
+    // The line of the table at the cycle and at chunk `i` of the address.
+    fn line(&self, i: usize, ends: &Ends<F>) -> Line<F>
+        requires within { i < self.now.sizes.d }
+        requires ends { length ends.now.low.now ≡ k self.now.sizes + self.now.sizes.t }
+        ensures { the_line F.Field.field result.low result.high ≡ line_of F.Field.field ends.now.low.now ends.now.high.now (chunk_at_point F.Field.field self.now.sizes (A.Committed.table self.now.table.now).entries i) }
+    {
+        ends.line(|point| self.value_at(i, point))
+    }
+
+    // eq times the square of an entry less the entry.
+    // The draws and the ends have lengths of their own in each stage's term, so no type for both could say them.
+    fn bits_term(&self, draws: &[F], ends: &Ends<F>) -> Polynomial<F>
+        requires draws { length draws.now ≡ self.now.sizes.c + self.now.sizes.t }
+        requires ends { length ends.now.low.now ≡ self.now.sizes.c + self.now.sizes.t }
+        ensures { coefficients result ≡ kept F.Field.field (bits_term F.Field.field self.now.sizes ends.now.low.now ends.now.high.now (A.Committed.table self.now.table.now).entries draws.now) }
+    {
+        let entry = ends.line(|point| opened_at(self.table, point, &[]));
+        let weight = ends.line(|point| eq_of_points(draws, point)).alone();
+        let weighted = entry.times(weight);
+        entry.times(weighted).minus(weighted)
+    }
+
+    // The entry at the draws' cycle.
+    fn row_term(&self, draws: &[F], ends: &Ends<F>) -> Polynomial<F>
+        requires draws { length draws.now ≡ self.now.sizes.t }
+        requires ends { length ends.now.low.now ≡ self.now.sizes.c }
+        ensures { coefficients result ≡ kept F.Field.field (row_term F.Field.field self.now.sizes ends.now.low.now ends.now.high.now (A.Committed.table self.now.table.now).entries draws.now) }
+    {
+        ends.line(|point| opened_at(self.table, point, draws))
+            .alone()
+    }
+}
+
+impl<'a, F: Field, A: Committed<F>> ChunkTables<'a, F, A> {
+    fn new(sizes: Sizes, tables: &'a [A]) -> ChunkTables<'a, F, A>
+        requires { chunks_fit sizes (map A.Committed.table tables.now) ≡ true }
+        ensures sizes { result.sizes ≡ sizes }
+        ensures tables { result.tables.now ≡ tables.now }
+    {
+        ChunkTables {
+            sizes,
+            tables,
+            field: PhantomData,
+        }
+    }
+
+    // The table of a number, from 1.
+    fn numbered(&self, number: usize) -> Chunk<'a, F, A>
+        requires { (1 ≤ number) × (number ≤ self.now.sizes.d) }
+        ensures sizes { result.sizes ≡ self.now.sizes }
+        ensures entries { chunk_at (map (λ m. (A.Committed.table m).entries) self.now.tables.now) number ≡ (A.Committed.table result.table.now).entries }
+    {
+        Chunk {
+            sizes: self.sizes,
+            table: &self.tables[number - 1],
+            field: PhantomData,
+        }
+    }
+
+    // A polynomial times the lines of all tables.
+    fn times(&self, ends: &Ends<F>, first: Polynomial<F>) -> Polynomial<F>
+        requires { length ends.now.low.now ≡ k self.now.sizes + self.now.sizes.t }
+        ensures { coefficients result ≡ kept F.Field.field (times_chunks F.Field.field self.now.sizes ends.now.low.now ends.now.high.now (map (λ m. (A.Committed.table m).entries) self.now.tables.now) self.now.sizes.d (coefficients first)) }
+    {
+        let (sizes, tables) = (self.sizes, self.tables);
+        let mut product = first;
+        for (i, table) in tables.iter().enumerate() {
+            let chunk = Chunk {
+                sizes,
+                table,
+                field: PhantomData,
+            };
+            product = chunk.line(i, ends).times(product);
+        }
+        product
+    }
 }
 
 // What the proving end has: tables that fit the sizes of the plan, and the challenges so far.
@@ -106,7 +316,7 @@ impl<'a, F: Field, A: Committed<F>, M: Listed<F>, V: Committed<F>> Prover<'a, F,
         let (address, cycle) = point.split_at(k);
         match self.tables {
             Tables::Shout { val, .. } => opened_at(*val, address, &[]),
-            Tables::Twist { inc, .. } => value_of(self.plan.sizes, *inc, address, cycle),
+            Tables::Twist { inc, .. } => value_at(self.plan.sizes, *inc, address, cycle).unwrap(),
         }
     }
 

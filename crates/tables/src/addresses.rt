@@ -25,6 +25,7 @@ impl Addressed for usize {
 pub(crate) fn check_addresses<T: Addressed>(items: &[T], cells: usize) -> Result<(), Refusal>
     ensures { result ≡ if_all (T.below cells) 0 items.now (Ok tt) }
 {
+    // Two arms: `map_or` would say the same in one longer line.
     match items.iter().position(|item| !item.is_below(cells)) {
         Some(j) => Err(Refusal::AddressTooLarge(j)),
         None => Ok(()),

@@ -85,12 +85,11 @@ pub(crate) fn check_fits<F: Field>(head: &[F], tail: &[F], n: usize) -> Result<(
     }
 }
 
-// Refuses an index that is not below 2^n.
+// Refuses an index that a table of `n` variables has not.
 pub(crate) fn check_index(index: usize, n: usize) -> Result<(), Refusal>
-    requires { n ≤ most_variables }
-    ensures { result ≡ cond (nat_lt index (2 ^ n)) (Ok tt) (Err OutsideTable) }
+    ensures { n ≤ most_variables → result ≡ cond (nat_lt index (2 ^ n)) (Ok tt) (Err OutsideTable) }
 {
-    if index < 1 << n {
+    if n <= MOST_VARIABLES && index < 1 << n {
         Ok(())
     } else {
         Err(Refusal::OutsideTable)

@@ -65,6 +65,7 @@ impl<'a, F: Field> RunLists<'a, F> {
         ensures { result ≡ cell F.Field.field (λ j. slice_index self.now.writes.now j) (entry F.Field.field self.now.wv.now) address cycle }
     {
         let writes = &self.writes[..cycle];
+        // Two arms: in a closure the index would have to be proved again.
         match writes.iter().rposition(|cell| *cell == address) {
             Some(j) => self.wv[j],
             None => F::zero_element(),

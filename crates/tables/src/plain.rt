@@ -8,7 +8,7 @@ use crate::table::{Committed, Listed};
 use fields::field::Field;
 use fields::refusal::Refusal;
 
-// No invariant: what it means is defined for any contents. The slice is copied to a local before it is read.
+// No invariant: what it means is defined for any contents. Each call copies the slice to a local, and reads that one list.
 #[derive_where(Clone, Copy)]
 #[derive_where(PartialEq, Eq, Debug; F)]
 pub struct PlainList<'a, F> {

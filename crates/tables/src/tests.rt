@@ -14,7 +14,7 @@ use std::process::Abort;
 use std::test::Fail;
 
 // The element of F31 that means a number below its order.
-// Without a Result, so that it can stand in arrays and in tests that return nothing.
+// Without a Result, so that it can stand in arrays. One that the tests of several crates share would have to be public.
 fn f31(number: u64) -> F31 {
     F31::from_number(number).unwrap_or(F31::ZERO)
 }

@@ -23,6 +23,7 @@ const MOST_DIGITS: usize = 4;
 fn short_number(digits: &[u8]) -> Option<usize>
     ensures { NumberRead digits.now result }
 {
+    // What the library would take, and the format does not.
     if digits.len() > 1 && digits[0] == b'0' {
         return None;
     }

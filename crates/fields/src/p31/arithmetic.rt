@@ -56,7 +56,7 @@ impl Field for P31 {
         self.re.to_number() + self.im.to_number() * F31::ORDER
     }
 
-    // Sums and differences part by part, each in full: a closure for both would need clauses of its own.
+    // Sums and differences: each is one line for each part.
     fn plus(self, other: P31) -> P31 {
         P31 {
             re: self.re.plus(other.re),

@@ -21,9 +21,7 @@ pub(crate) trait ModuloPrime<const Q: u32> {
 // A number below twice the modulus, less the modulus if it is not below it.
 // Where it is below, the difference wraps around and is the greater of the two, so that no branch is needed.
 pub(crate) fn reduced(number: u32, modulus: u32) -> u32
-    requires short { modulus < 2 ^ 31 }
-    requires below { number < modulus + modulus }
-    ensures { result ≡ number % modulus }
+    ensures { modulus < 2 ^ 31 → number < modulus + modulus → result ≡ number % modulus }
 {
     number.min(number.wrapping_sub(modulus))
 }

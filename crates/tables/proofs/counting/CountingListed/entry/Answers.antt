@@ -9,4 +9,4 @@ returns g c =
     let f = g.F.Field.field in
     let m = c.args.self.now in
     let all : c.loop.counter ≡ c.args.index = omega arith in
-    gives f m.variables m.few (ones f) c.args.index _ (passed _ c.in_ok-check_index.ensures) (c.loop.invariant ∙ ap (ones f) all)
+    gives f m.variables m.few (ones f) c.args.index _ (passed _ (c.in_ok-check_index.ensures m.few)) (c.loop.invariant ∙ ap (ones f) all)

@@ -11,6 +11,6 @@ returns g c =
     let f = g.F.Field.field in
     let es = c.args.self.now.items.now in
     let i = c.args.index in
-    let below = passed _ c.in_ok-check_index.ensures ∙ ap (λ (n : ℕ). ltb i (2 ^ n)) c.variables_of.ensures.value in
+    let below = passed _ (c.in_ok-check_index.ensures c.variables_of.ensures.bound) ∙ ap (λ (n : ℕ). ltb i (2 ^ n)) c.variables_of.ensures.value in
     let read : c.unwrap_or.result ≡ entry f es i = search (rules, common_steps) in
     gives f (variables_in (length es)) (variables_upto_few most_variables (length es)) (entry f es) i _ below read

@@ -1,7 +1,7 @@
 use Rattle.std.proofs.Common.{◌≡◌, ℕ, ◌+◌, ◌<◌, ◌∷◌, ◌++◌, length, get_or}
 use Rattle.tables.specs.Limits.{most_variables}
 use Rattle.tables.specs.Sums.{corner}
-use Rattle.stages.proofs.prover.point.Point.new.Given as goal
+use Rattle.stages.proofs.prover.Point.new.Given as goal
 
 -- the places gone through have their coordinates
 abbrev pub invariant-loop-i : goal.invariant-loop-i

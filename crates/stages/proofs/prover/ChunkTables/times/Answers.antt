@@ -3,7 +3,7 @@ use Rattle.rounds.specs.Accumulators.{coefficients, kept}
 use Rattle.stages.specs.Terms.{line_of, chunk_at_point, chunk_factor, times_chunks}
 use Rattle.stages.proofs.Fits.{fits_count, fits_variables, entries_at}
 use Rattle.stages.proofs.Kept.{times_is}
-use Rattle.stages.proofs.prover.chunks.ChunkTables.times.Goals as goal
+use Rattle.stages.proofs.prover.ChunkTables.times.Goals as goal
 
 pub line-requires : goal.line-requires
 line-requires g c =

@@ -6,7 +6,7 @@ use Rattle.rounds.specs.Polynomials.{poly_mul, line}
 use Rattle.stages.specs.Formulas.{chunk_value}
 use Rattle.stages.specs.Terms.{line_of}
 use Rattle.stages.proofs.Kept.{kept_less, times_is}
-use Rattle.stages.proofs.prover.chunks.Chunk.bits_term.Goals as goal
+use Rattle.stages.proofs.prover.Chunk.bits_term.Goals as goal
 
 pub returns : goal.returns
 returns g c =

@@ -1,7 +1,7 @@
 use Rattle.std.proofs.Common.{◌/◌, ◌%◌, ◌^◌, ap, ◌∙◌, arith}
 use Rattle.tables.specs.Sums.{bit}
 use Rattle.stages.proofs.Coordinates.{coordinate_after}
-use Rattle.stages.proofs.prover.point.coordinate.Goals as goal
+use Rattle.stages.proofs.prover.coordinate.Goals as goal
 
 pub returns-else-i-r-2 : goal.returns-else-i-r-2
 returns-else-i-r-2 g c =

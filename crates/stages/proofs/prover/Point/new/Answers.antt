@@ -1,6 +1,6 @@
 use Rattle.std.proofs.Common.{refl, arith}
 use Rattle.stages.proofs.Coordinates.{filled_point}
-use Rattle.stages.proofs.prover.point.Point.new.Goals as goal
+use Rattle.stages.proofs.prover.Point.new.Goals as goal
 
 pub returns : goal.returns
 returns g c =

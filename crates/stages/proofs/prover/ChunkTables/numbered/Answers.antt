@@ -1,6 +1,6 @@
 use Rattle.std.proofs.Common.{◌-◌, sym, ap, ◌∙◌, arith}
 use Rattle.stages.proofs.Fits.{fits_count, fits_variables}
-use Rattle.stages.proofs.prover.chunks.ChunkTables.numbered.Goals as goal
+use Rattle.stages.proofs.prover.ChunkTables.numbered.Goals as goal
 
 pub invariant_of-result : goal.invariant_of-result
 invariant_of-result g c =

@@ -1,7 +1,7 @@
 use Rattle.std.proofs.Common.{◌≡◌, map}
 use Rattle.rounds.specs.Accumulators.{coefficients, kept}
 use Rattle.stages.specs.Terms.{times_chunks}
-use Rattle.stages.proofs.prover.chunks.ChunkTables.times.Given as goal
+use Rattle.stages.proofs.prover.ChunkTables.times.Given as goal
 
 -- the lines of the tables gone through are multiplied
 abbrev pub invariant-loop-i : goal.invariant-loop-i

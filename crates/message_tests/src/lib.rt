@@ -125,9 +125,9 @@ mod tests {
 
     type Plain<'a> = PlainList<'a, F31>;
 
-    // Elements by the numbers that they mean. One that the tests of several crates share would have to be public.
-    fn elements<const N: usize>(numbers: [u64; N]) -> [F31; N] {
-        numbers.map(|n| F31::from_number(n).unwrap_or(F31::ZERO))
+    // The element that means a number. One that the tests of several crates share would have to be public.
+    fn element(number: u64) -> F31 {
+        F31::from_number(number).unwrap_or(F31::ZERO)
     }
 
     // What an output list of eight nines holds after a message was written, or after none was.
@@ -151,7 +151,7 @@ mod tests {
     ) {
         for count in 0..=challenges.len() {
             let so_far = &challenges[..count];
-            let mut output = elements([9; 8]);
+            let mut output = [9; 8].map(element);
             let answer = make_message(sizes, tables, so_far, &mut output);
             let message = messages.iter().find(|m| m.0 == count).map(|m| m.1);
             assert_eq!(rt; answer, message.map(|_| ()).ok_or(Refusal::NothingDue));
@@ -165,7 +165,7 @@ mod tests {
 
     #[test]
     fn one_chunk_of_one_bit(rt: HostRuntime) -> Result<(), Fail> {
-        let all = elements(SMALLEST_ENTRIES);
+        let all = SMALLEST_ENTRIES.map(element);
         let tables = Tables::Twist {
             ra: &[PlainList::new(&all[0..4])?],
             wa: &[PlainList::new(&all[4..8])?],
@@ -173,7 +173,7 @@ mod tests {
             rv: &PlainList::new(&all[12..14])?,
             wv: &PlainList::new(&all[14..16])?,
         };
-        let challenges = elements(SMALLEST_CHALLENGES);
+        let challenges = SMALLEST_CHALLENGES.map(element);
         proves(
             &rt,
             Sizes::new(1, 1, 1)?,
@@ -187,7 +187,7 @@ mod tests {
 
     #[test]
     fn two_chunks_of_one_bit(rt: HostRuntime) -> Result<(), Fail> {
-        let all = elements(TWO_CHUNKS_ENTRIES);
+        let all = TWO_CHUNKS_ENTRIES.map(element);
         let tables = Tables::Twist {
             ra: &[PlainList::new(&all[0..4])?, PlainList::new(&all[4..8])?],
             wa: &[PlainList::new(&all[8..12])?, PlainList::new(&all[12..16])?],
@@ -195,7 +195,7 @@ mod tests {
             rv: &PlainList::new(&all[24..26])?,
             wv: &PlainList::new(&all[26..28])?,
         };
-        let challenges = elements(TWO_CHUNKS_CHALLENGES);
+        let challenges = TWO_CHUNKS_CHALLENGES.map(element);
         proves(
             &rt,
             Sizes::new(2, 1, 1)?,
@@ -209,7 +209,7 @@ mod tests {
 
     #[test]
     fn one_chunk_of_two_bits(rt: HostRuntime) -> Result<(), Fail> {
-        let all = elements(WIDER_ENTRIES);
+        let all = WIDER_ENTRIES.map(element);
         let tables = Tables::Twist {
             ra: &[PlainList::new(&all[0..16])?],
             wa: &[PlainList::new(&all[16..32])?],
@@ -217,7 +217,7 @@ mod tests {
             rv: &PlainList::new(&all[48..52])?,
             wv: &PlainList::new(&all[52..56])?,
         };
-        let challenges = elements(WIDER_CHALLENGES);
+        let challenges = WIDER_CHALLENGES.map(element);
         proves(
             &rt,
             Sizes::new(1, 2, 2)?,

@@ -35,7 +35,16 @@ fn exponent(number: u32) -> usize
     exponents()[number as usize] as usize
 }
 
+impl F257 {
+    // As the one of F31.
+    pub const ORDER: u64 = MODULUS as u64;
+}
+
+const _: () = prove!(F257::ORDER == 257);
+
 impl ModuloPrime<MODULUS> for F257 {
+    const NAME: &'static str = "F257";
+
     ghost modulus = { f257_modulus };
 
     // Zero is no power of 3, and is handled apart.

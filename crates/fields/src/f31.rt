@@ -26,7 +26,16 @@ fn folded(product: u64) -> u32
     (product & LOW_BITS) as u32 + (product >> 31) as u32
 }
 
+impl F31 {
+    // The order as a constant that constants, patterns and lengths of arrays may name, which that of a generic impl is not.
+    pub const ORDER: u64 = MODULUS as u64;
+}
+
+const _: () = prove!(F31::ORDER == 2147483647);
+
 impl ModuloPrime<MODULUS> for F31 {
+    const NAME: &'static str = "F31";
+
     ghost modulus = { f31_modulus };
 
     fn product(a: u32, b: u32) -> u32 {

@@ -8,6 +8,16 @@ use std::test::Fail;
 
 const Q: u64 = 2147483647;
 
+// The orders stand where a constant is needed: in another, in a pattern, and in the length of an array.
+const ORDER: u64 = F31::ORDER;
+
+fn is_order(number: u64) -> bool {
+    match number {
+        F257::ORDER => true,
+        _ => false,
+    }
+}
+
 #[test]
 fn f257_products(rt: HostRuntime) -> Result<(), Fail> {
     for a in 0..257u64 {
@@ -75,5 +85,27 @@ fn shown_by_meaning(rt: HostRuntime) -> Result<(), Fail> {
     let x = P31::from_number(4611686014132420608)?;
     let text = format!(in rt.alloc(); "{x}")?;
     assert_eq!(rt; text.as_str(), "4611686014132420608");
+    Ok(())
+}
+
+#[test]
+fn orders_are_constants(rt: HostRuntime) -> Result<(), Fail> {
+    assert_eq!(rt; (ORDER, F31::field_order()), (Q, Q));
+    assert_eq!(rt; (is_order(256), is_order(257)), (false, true));
+    assert_eq!(rt;
+        ([0; F257::ORDER as usize].len(), F257::field_order()),
+        (257, 257)
+    );
+    Ok(())
+}
+
+#[test]
+fn debugged_by_field(rt: HostRuntime) -> Result<(), Fail> {
+    let values = (F31::ONE, F257::ONE, P31::ONE);
+    let text = format!(in rt.alloc(); "{values:?}")?;
+    assert_eq!(rt;
+        text.as_str(),
+        "(F31 { value: 1 }, F257 { value: 1 }, P31 { re: F31 { value: 1 }, im: F31 { value: 0 } })"
+    );
     Ok(())
 }

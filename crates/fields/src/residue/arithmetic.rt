@@ -10,6 +10,9 @@ use std::fmt;
 
 // What each prime Q has of its own: the facts that make a field of the residues modulo Q, and their product.
 pub(crate) trait ModuloPrime<const Q: u32> {
+    // The name of the field, under which an element shows itself for debugging.
+    const NAME: &'static str;
+
     ghost modulus: { FieldModulus Q };
 
     fn product(a: u32, b: u32) -> u32
@@ -94,6 +97,18 @@ where
 
     fn negated(self) -> Residue<Q> {
         element(Q - self.value)
+    }
+}
+
+// By hand, since a derive would show the name of the generic type for every field.
+impl<const Q: u32> fmt::Debug for Residue<Q>
+where
+    Residue<Q>: ModuloPrime<Q>,
+{
+    fn fmt<W: fmt::Write>(&self, f: &mut fmt::Formatter<W>) -> fmt::Result {
+        f.debug_struct(<Residue<Q> as ModuloPrime<Q>>::NAME)
+            .field("value", &self.value)
+            .finish()
     }
 }
 

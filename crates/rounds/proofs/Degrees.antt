@@ -38,7 +38,7 @@ module _ {F : Type 0} (f : FieldOf F) where
       length-poly_add (suc (suc a + b)) (map (f.mul x) q) (f.zero ∷ poly_mul f (y ∷ p) q) (rw length-map (omega arith))
       (omega (arith, length-poly_mul a b (y ∷ p) q (omega arith) k))
 
-  degree_own : (p : List F) → Degree (length p - 1) p
+  pub degree_own : (p : List F) → Degree (length p - 1) p
   degree_own p = record { within = omega arith }
 
   pub degree_const : (d : ℕ) (x : F) → Degree d (x ∷ [])

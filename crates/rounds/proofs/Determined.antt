@@ -12,7 +12,7 @@ use Rattle.rounds.proofs.Roots.{zero_by_roots}
 
 module _ {F : Type 0} (f : FieldOf F) where
   -- polynomials with the same coefficients are filled up to the same list
-  padded-same : (n : ℕ) (p q : List F) → ((i : ℕ) → coefficient f p i ≡ coefficient f q i) → padded f n p ≡ padded f n q
+  pub padded-same : (n : ℕ) (p q : List F) → ((i : ℕ) → coefficient f p i ≡ coefficient f q i) → padded f n p ≡ padded f n q
   padded-same zero p q h = refl
   padded-same (suc n) [] [] h = refl
   padded-same (suc n) [] (b ∷ q) h = ap₂ ◌∷◌ (h 0) (padded-same n [] q (λ i. h (suc i)))

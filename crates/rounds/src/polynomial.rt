@@ -1,5 +1,5 @@
 // A polynomial of up to seven coefficients: what the proving end adds up and multiplies by lines.
-ghost use Rattle.std.specs.Prelude.{◌≡◌, [], ◌∷◌};
+ghost use Rattle.std.specs.Prelude.{◌≡◌, []};
 ghost use Rattle.fields.specs.Fields.{elements};
 ghost use Rattle.tables.specs.Formulas.{less, between};
 ghost use Rattle.rounds.specs.Polynomials.{poly_add, poly_mul, polynomials, line as the_line, value, coefficient as the_coefficient};
@@ -118,17 +118,19 @@ impl<F: Field> Polynomial<F> {
         ensures whole { self.c6 ≡ F.Field.field.zero → Multiplies F.Field.field (coefficients result) (coefficients self) (the_line F.Field.field low high) }
     {
         let slope = high.minus(low);
-        Polynomial::from_fn(
-            |i| -> F
-                ensures { result ≡ the_coefficient F.Field.field (poly_mul F.Field.field (coefficients self) (low ∷ slope ∷ [])) i }
-            {
-                let own = self.coefficient(i).times(low);
-                match i.checked_sub(1) {
-                    Some(below) => self.coefficient(below).times(slope).plus(own),
-                    None => own,
-                }
-            },
-        )
+        // By two coefficients: over P31 a closure that takes a power and looks them up takes 1.9 times as long.
+        let next = |below: F, own: F| -> F
+            ensures { result ≡ F.Field.field.add (F.Field.field.mul below slope) (F.Field.field.mul own low) }
+        { below.times(slope).plus(own.times(low)) };
+        Polynomial {
+            c0: self.c0.times(low),
+            c1: next(self.c0, self.c1),
+            c2: next(self.c1, self.c2),
+            c3: next(self.c2, self.c3),
+            c4: next(self.c3, self.c4),
+            c5: next(self.c4, self.c5),
+            c6: next(self.c5, self.c6),
+        }
     }
 
     // Writes the first `count` coefficients into the first places of the output.

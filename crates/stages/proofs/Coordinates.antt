@@ -1,7 +1,7 @@
 -- The coordinates of a round's point.
-use Rattle.std.proofs.Common.{◌≡◌, ℕ, zero, suc, ◌+◌, ◌-◌, ◌/◌, ◌%◌, ◌^◌, ◌<◌, ◌≤◌, List, ◌∷◌, ◌++◌, length, get_or, take, drop, sym, refl, ap, ◌∙◌, arith, length-append, length-take, get_or-take}
-use native.Mathlib.Nat.{min-eq_left}
+use Rattle.std.proofs.Common.{◌≡◌, ℕ, zero, suc, ◌+◌, ◌-◌, ◌/◌, ◌%◌, ◌^◌, ◌<◌, ◌≤◌, List, ◌∷◌, ◌++◌, length, get_or, take, drop, sym, refl, ap, ◌∙◌, arith, length-append}
 use Rattle.std.proofs.lemmas.List.{get_or-append_right, ext_get_or}
+use Rattle.std.proofs.Math.Seq.{take-append_seam}
 use Rattle.std.proofs.lemmas.Slice.{between_to_end}
 use Rattle.fields.specs.Fields.{FieldOf}
 use Rattle.tables.specs.Sums.{bit, corner}
@@ -32,13 +32,11 @@ module _ {F : Type 0} (f : FieldOf F) where
     pub length-point : length point ≡ length r + 1 + left
     length-point = length-append r (x ∷ corner f left index) ∙ omega (arith, length-corner left index)
 
-    -- a list with the point's coordinates at its first places
-    pub filled_point : (ys : List F) (n : ℕ) → n ≡ length r + 1 + left → n ≤ length ys
-        → ((j : ℕ) → j < n → get_or ys j f.zero ≡ get_or point j f.zero) → take n ys ≡ point
-    filled_point ys n e k same =
-        let l : length (take n ys) ≡ n = length-take n ys ∙ min-eq_left k in
-        ext_get_or f.zero (take n ys) point (l ∙ e ∙ sym length-point)
-        (λ j below. get_or-take n ys j f.zero (omega arith) ∙ same j (omega arith))
+    -- a list of the point's coordinates, and others after them
+    pub filled_point : (ys zs : List F) → length ys ≡ length r + 1 + left
+        → ((j : ℕ) → j < length ys → get_or ys j f.zero ≡ get_or point j f.zero) → take (length r + 1 + left) (ys ++ zs) ≡ point
+    filled_point ys zs e same =
+        ap (λ n. take n (ys ++ zs)) (sym e) ∙ take-append_seam ys zs ∙ ext_get_or f.zero ys point (e ∙ sym length-point) same
 
 -- the last coordinates of a point, as the code takes them
 module _ {F : Type 0} (point : List F) where

@@ -1,10 +1,12 @@
 -- The line of a job, part by part.
-use Rattle.std.proofs.Common.{◌≡◌, ℕ, List, ◌∷◌, ◌++◌, decimal, sym, ◌∙◌, append_assoc, lit<}
+use Rattle.std.proofs.Common.{◌≡◌, ℕ, suc, ◌+◌, ◌-◌, ◌≤◌, min, List, ◌∷◌, ◌++◌, length, take, drop, Some, None, Option, decimal, sym, ap, refl, ◌∙◌, append_assoc, lit<, arith}
+use Rattle.std.proofs.lemmas.List.{take-append-drop, length-append}
+use Rattle.std.proofs.Math.Seq.{take-append-add}
 use Rattle.stages.specs.declared.plan.Kind.{Kind}
 use Rattle.stages.specs.declared.plan.Kind.TheVariants.{Shout, Twist}
 use Rattle.texts.specs.declared.job.Job.{Job}
-use Rattle.texts.specs.Jobs.{tab, line_end, kind_name, job_line, Short, Begins}
-use Rattle.texts.proofs.Numbers.{after_number}
+use Rattle.texts.specs.Jobs.{tab, line_end, kind_name, job_line, Short, Begins, JobFirst}
+use Rattle.texts.proofs.Numbers.{after_number, plain_decimal}
 
 kind_rest : (k m : Kind) (xs ys : List ℕ) → kind_name k ++ (tab ∷ xs) ≡ kind_name m ++ (tab ∷ ys) → xs ≡ ys
 kind_rest Shout Shout xs ys q = cc
@@ -32,3 +34,38 @@ module _ (input : List ℕ) (j : Job) (b : Begins input j) where
 
   pub after_d : (k : Kind) (d : ℕ) (bytes rest : List ℕ) → input ≡ kind_name k ++ (tab ∷ bytes) → Short d × (bytes ≡ decimal d ++ (tab ∷ rest)) → rest ≡ from_c j b.rest
   after_d k d bytes rest q r = after_number d j.d bytes rest (from_c j b.rest) tab (lit< tt) r.0 b.d_short r.1 (after_kind k bytes q)
+
+name_length : (k : Kind) → length (kind_name k) ≡ 5
+name_length Shout = refl
+name_length Twist = refl
+
+-- no line of a job is longer than 21 bytes
+line_length : (input : List ℕ) (j : Job) → Begins input j → length (job_line j) ≤ 21
+line_length input j b =
+    let d = (plain_decimal j.d b.d_short).few in
+    let c = (plain_decimal j.c b.c_short).few in
+    let t = (plain_decimal j.t b.t_short).few in
+    let parts : length (job_line j) ≡ length (kind_name j.kind) + suc (length (decimal j.d) + suc (length (decimal j.c) + suc (length (decimal j.t) + 1))) = simp length-append in
+    omega (arith, parts, name_length j.kind, d, c, t)
+
+-- an input begins with the job that its front of up to 21 bytes begins with, and with none if the front does not
+pub first_of_front : (input : List ℕ) (n : ℕ) → n ≡ min (length input) 21 → (found : Option Job) → JobFirst (take n input) found → JobFirst input found
+first_of_front input n front (Some j) b =
+    record {
+      d_short = b.d_short;
+      c_short = b.c_short;
+      t_short = b.t_short;
+      rest = b.rest ++ drop n input;
+      whole = sym (take-append-drop n input) ∙ ap (λ l. l ++ drop n input) b.whole ∙ append_assoc (job_line j) b.rest (drop n input);
+    }
+first_of_front input n front None none = λ j b.
+    let line = job_line j in
+    let all : length input ≡ length line + length b.rest = ap length b.whole ∙ length-append line b.rest in
+    let room : n ≡ length line + (n - length line) = omega (arith, front, all, line_length input j b) in
+    none j (record {
+      d_short = b.d_short;
+      c_short = b.c_short;
+      t_short = b.t_short;
+      rest = take (n - length line) b.rest;
+      whole = ap (take n) b.whole ∙ ap (λ m. take m (line ++ b.rest)) room ∙ take-append-add line b.rest (n - length line);
+    })

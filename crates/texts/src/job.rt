@@ -19,6 +19,9 @@ pub struct Job {
 // The digits of a number in a line.
 const MOST_DIGITS: usize = 4;
 
+// The bytes of the longest line: the name of a kind, three numbers, and a byte after each of the four.
+const LONGEST_LINE: usize = 21;
+
 // The number that at most MOST_DIGITS digits write, without a leading zero.
 fn short_number(digits: &[u8]) -> Option<usize>
     ensures { NumberRead digits.now result }
@@ -71,11 +74,12 @@ fn first_job(input: &[u8]) -> Option<Job>
     Some(Job { kind, d, c, t })
 }
 
-// The job whose line the input begins with.
+// The job whose line the input begins with. No line is longer than the longest, so nothing past that is looked at.
 pub fn read_job(input: &[u8]) -> Result<Job, Refusal>
     ensures { Reads input.now result }
 {
-    first_job(input).ok_or(Refusal::MalformedLine)
+    let front = &input[..input.len().min(LONGEST_LINE)];
+    first_job(front).ok_or(Refusal::MalformedLine)
 }
 
 // The plan that a job asks for, or the refusal of its sizes.

@@ -119,15 +119,16 @@ fn last_bit<F: Field>(number: usize) -> F
 
 // Coordinate `i` of the point that has the challenges `r`, then `x`, then the bits of `index`.
 fn coordinate<F: Field>(r: &[F], x: F, left: usize, index: usize, i: usize) -> F
-    requires { left ≤ most_variables }
-    ensures { i < length r.now + 1 + left → result ≡ slice_index_or (r.now ++ (x ∷ corner F.Field.field left index)) i F.Field.field.zero }
+    requires room { left ≤ most_variables }
+    requires within { i < length r.now + 1 + left }
+    ensures { result ≡ slice_index_or (r.now ++ (x ∷ corner F.Field.field left index)) i F.Field.field.zero }
 {
     if i < r.len() {
         r[i]
     } else if i == r.len() {
         x
     } else {
-        last_bit(index >> left.saturating_sub(i - r.len()))
+        last_bit(index >> (left - (i - r.len())))
     }
 }
 

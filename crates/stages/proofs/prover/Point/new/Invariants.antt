@@ -7,4 +7,4 @@ abbrev pub invariant-loop-i : goal.invariant-loop-i
 invariant-loop-i g l =
     let f = g.F.Field.field in
     (length l.place-items ≡ length l.r + 1 + l.left)
-    × ((j : ℕ) → j < l.i → j < length l.r + 1 + l.left → get_or l.place-items j f.zero ≡ get_or (l.r ++ (l.x ∷ corner f l.left l.index)) j f.zero)
+    × ((j : ℕ) → j < l.i → get_or l.place-items j f.zero ≡ get_or (l.r ++ (l.x ∷ corner f l.left l.index)) j f.zero)

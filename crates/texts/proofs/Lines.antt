@@ -48,9 +48,9 @@ line_length input j b =
     let parts : length (job_line j) ≡ length (kind_name j.kind) + suc (length (decimal j.d) + suc (length (decimal j.c) + suc (length (decimal j.t) + 1))) = simp length-append in
     omega (arith, parts, name_length j.kind, d, c, t)
 
--- an input begins with the job that its front of up to 21 bytes begins with, and with none if the front does not
-pub first_of_front : (input : List ℕ) (n : ℕ) → n ≡ min (length input) 21 → (found : Option Job) → JobFirst (take n input) found → JobFirst input found
-first_of_front input n front (Some j) b =
+-- an input begins with the job that its front begins with, and with none if the front does not, where the front has room for each line
+pub first_of_front : (input : List ℕ) (most n : ℕ) → 21 ≤ most → n ≡ min (length input) most → (found : Option Job) → JobFirst (take n input) found → JobFirst input found
+first_of_front input most n enough front (Some j) b =
     record {
       d_short = b.d_short;
       c_short = b.c_short;
@@ -58,10 +58,10 @@ first_of_front input n front (Some j) b =
       rest = b.rest ++ drop n input;
       whole = sym (take-append-drop n input) ∙ ap (λ l. l ++ drop n input) b.whole ∙ append_assoc (job_line j) b.rest (drop n input);
     }
-first_of_front input n front None none = λ j b.
+first_of_front input most n enough front None none = λ j b.
     let line = job_line j in
     let all : length input ≡ length line + length b.rest = ap length b.whole ∙ length-append line b.rest in
-    let room : n ≡ length line + (n - length line) = omega (arith, front, all, line_length input j b) in
+    let room : n ≡ length line + (n - length line) = omega (arith, enough, front, all, line_length input j b) in
     none j (record {
       d_short = b.d_short;
       c_short = b.c_short;
